@@ -1,0 +1,4 @@
+pub mod Following
+mod Front
+mod HeldFiles
+pub mod Written

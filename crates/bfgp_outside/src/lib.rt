@@ -1,0 +1,21 @@
+//! The outside: shelves that hold files, sinks that take bytes, and the calls that read and write them whole.
+#![tactic(auto)]
+
+mod memory_shelf;
+mod memory_sink;
+mod put;
+mod real;
+mod shelf;
+mod sink;
+mod whole;
+
+pub use memory_shelf::MemoryShelf;
+pub use memory_sink::MemorySink;
+pub use put::put_all;
+pub use real::{RealShelf, RealSink};
+pub use shelf::{Shelf, ShelfFault};
+pub use sink::{Sink, SinkFailed};
+pub use whole::{ReadRefusal, read_whole};
+
+#[cfg(test)]
+mod tests;

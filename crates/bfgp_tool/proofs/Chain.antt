@@ -1,0 +1,56 @@
+-- Steps of a job, one after another, as the code answers them.
+use Rattle.std.proofs.Common.{◌≡◌, ℕ, ◌≤◌, List, Option, Some, None, Result, Ok, Err, arith}
+use Rattle.bfgp_outside.specs.Shelf.{Files, Knowing}
+use Rattle.bfgp_outside.specs.Causes.{Rose}
+use Rattle.bfgp_tool.specs.declared.reply.Reply.{Reply}
+use Rattle.bfgp_tool.specs.declared.reply.Halt.{Halt}
+use Rattle.bfgp_tool.specs.declared.reply.Halt.TheVariants.{Early, ReadFault, OutOfMemory}
+use Rattle.bfgp_tool.specs.declared.fault.Fault.{Fault}
+use Rattle.bfgp_tool.specs.declared.fault.Fault.TheVariants as faults
+use Rattle.bfgp_tool.specs.Faults.{IsTelling}
+use Rattle.bfgp_tool.specs.Steps.{◌>>=◌, goes_on, ends, Gives}
+use Rattle.bfgp_tool.specs.Answers.{HaltCause, TellsOther}
+
+-- a step that came to a value, and then what follows from it
+pub then_next : {A B : Type 0} (step : Result A Reply → Type 0) (next : A → Result B Reply → Type 0) (a : A) (r : Result B Halt) → step (Ok a) → Gives (next a) r → Gives (step >>= next) r
+then_next step next a (Ok b) here after = goes_on here after
+then_next step next a (Err (Early reply)) here after = goes_on here after
+then_next step next a (Err ReadFault) here after = tt
+then_next step next a (Err OutOfMemory) here after = tt
+
+-- a step that ended the job
+pub then_end : {A B : Type 0} (step : Result A Reply → Type 0) (next : A → Result B Reply → Type 0) (halt : Halt) → Gives step (Err halt) → Gives {A = B} (step >>= next) (Err halt)
+then_end step next (Early reply) here = ends here
+then_end step next ReadFault here = tt
+then_end step next OutOfMemory here = tt
+
+-- from facts about the files to another, where the shelf tells
+pub knowing : (told : Option Files) (P Q : Files → Type 0) → ((files : Files) → P files → Q files) → Knowing told P → Knowing told Q
+knowing (Some files) P Q goes p = goes files p
+knowing None P Q goes p = tt
+
+pub knowing_both : (told : Option Files) (P Q R : Files → Type 0) → ((files : Files) → P files → Q files → R files) → Knowing told P → Knowing told Q → Knowing told R
+knowing_both (Some files) P Q R goes p q = goes files p q
+knowing_both None P Q R goes p q = tt
+
+-- what ended the job without a read has its cause, whatever the counts
+pub other_cause : (reads reads_now absences absences_now : ℕ) (halt : Halt) → TellsOther halt → HaltCause reads reads_now absences absences_now halt
+other_cause reads reads_now absences absences_now (Early reply) tells = record { name = tells.0; fault = tells.1; is = tells.2; absent = λ is. absurd (tells.3 is) }
+other_cause reads reads_now absences absences_now ReadFault tells = absurd tells
+other_cause reads reads_now absences absences_now OutOfMemory tells = tt
+
+-- a count that rose since later than before rose since before
+pub rose_since : (before later now : ℕ) → before ≤ later → Rose later now → Rose before now
+rose_since before later now le rose = omega (arith, le, rose)
+
+-- a cause since a later call is one since an earlier
+pub cause_since : (reads reads_later reads_now absences absences_later absences_now : ℕ) (halt : Halt) → reads ≤ reads_later → absences ≤ absences_later → HaltCause reads_later reads_now absences_later absences_now halt → HaltCause reads reads_now absences absences_now halt
+cause_since reads reads_later reads_now absences absences_later absences_now (Early reply) r a tells = record { name = tells.name; fault = tells.fault; is = tells.is; absent = λ is. rose_since absences absences_later absences_now a (tells.absent is) }
+cause_since reads reads_later reads_now absences absences_later absences_now ReadFault r a rose = rose_since reads reads_later reads_now r rose
+cause_since reads reads_later reads_now absences absences_later absences_now OutOfMemory r a tells = tt
+
+-- a fault that is told has its cause, where that of an absent file has one
+pub telling_cause : (reads reads_now absences absences_now : ℕ) (name : List ℕ) (fault : Fault) (halt : Halt) → IsTelling name fault halt → (fault ≡ faults.Absent → Rose absences absences_now) → HaltCause reads reads_now absences absences_now halt
+telling_cause reads reads_now absences absences_now name fault (Early reply) tells rose = record { name = name; fault = fault; is = tells; absent = rose }
+telling_cause reads reads_now absences absences_now name fault ReadFault tells rose = absurd tells
+telling_cause reads reads_now absences absences_now name fault OutOfMemory tells rose = tt

@@ -1,0 +1,12 @@
+pub mod Spelled
+pub mod Naming
+pub mod Facts
+pub mod Validity
+pub mod Chain
+pub mod SpelledNames
+pub mod Sequels
+pub mod Synths
+pub mod Replying
+pub mod Written
+pub mod Headlines
+pub mod Documents

@@ -1,0 +1,5 @@
+use Rattle.bfgp_tool.proofs.SpelledNames.{heads_are_names}
+use Rattle.bfgp_tool.proofs.domain_reading.domain_text.Goals as goal
+
+pub returns-in-Ok-clause-names : goal.returns-in-Ok-clause-names
+returns-in-Ok-clause-names c = heads_are_names c.args.bytes.now c.in-Ok.text c.in-Ok.ensures.reply

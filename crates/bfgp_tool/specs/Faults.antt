@@ -1,0 +1,77 @@
+-- The faults of input files, the lines that tell them, and which refusal is which fault.
+use Rattle.std.specs.Prelude.{◌≡◌, ℕ, List, ◌++◌, codes, decimal, Option, Some, None, IsSomeAnd}
+use Rattle.flag_rules.specs.Line.{line}
+use Rattle.bfgp_outside.specs.declared.whole.ReadRefusal.{ReadRefusal}
+use Rattle.bfgp_outside.specs.declared.whole.ReadRefusal.TheVariants as read
+use Rattle.pddl_parser.specs.declared.refusal.ParseRefusal.{ParseRefusal}
+use Rattle.pddl_parser.specs.declared.refusal.ParseRefusal.TheVariants as parse
+use Rattle.ground_state.specs.declared.refusal.GroundRefusal.{GroundRefusal}
+use Rattle.ground_state.specs.declared.refusal.GroundRefusal.TheVariants as grounded
+use Rattle.bfgp_tool.specs.declared.fault.Fault.{Fault}
+use Rattle.bfgp_tool.specs.declared.fault.Fault.TheVariants.{Absent, TooLong, Byte, Unclosed, Unopened, TooDeep, Shape, Unsupported, Atoms}
+use Rattle.bfgp_tool.specs.declared.numbering.NumberingRefusal.{NumberingRefusal}
+use Rattle.bfgp_tool.specs.declared.numbering.NumberingRefusal.TheVariants as numbering
+use Rattle.bfgp_tool.specs.declared.reply.Reply.{Reply}
+use Rattle.bfgp_tool.specs.declared.reply.Halt.{Halt}
+use Rattle.bfgp_tool.specs.declared.reply.Halt.TheVariants.{Early, ReadFault, OutOfMemory}
+use Rattle.bfgp_tool.specs.declared.status.Status.TheVariants.{Input}
+
+-- how a fault is told; a position counts bytes from 0
+abbrev pub fault_text : Fault → List ℕ
+fault_text Absent = codes "absent"
+fault_text TooLong = codes "too long"
+fault_text (Byte position) = codes "byte " ++ decimal position
+fault_text (Unclosed position) = codes "unclosed " ++ decimal position
+fault_text (Unopened position) = codes "unopened " ++ decimal position
+fault_text (TooDeep position) = codes "too deep " ++ decimal position
+fault_text (Shape position) = codes "shape " ++ decimal position
+fault_text (Unsupported position) = codes "unsupported " ++ decimal position
+fault_text (Atoms count) = codes "atoms " ++ decimal count
+
+-- the line for a fault of the file with this name
+abbrev pub fault_line : List ℕ → Fault → List ℕ
+fault_line name fault = line (codes "input " ++ name ++ codes " " ++ fault_text fault)
+
+abbrev pub fault_reply : List ℕ → Fault → Reply
+fault_reply name fault = record { status = Input; text = fault_line name fault }
+
+-- the faults of reading; a failed read and want of memory are none
+abbrev pub reading_fault : ReadRefusal → Option Fault
+reading_fault read.Absent = Some Absent
+reading_fault read.TooLong = Some TooLong
+reading_fault read.Failed = None
+reading_fault read.OutOfMemory = None
+
+-- the faults of a text
+abbrev pub parsing_fault : ParseRefusal → Option Fault
+parsing_fault (parse.Byte position) = Some (Byte position)
+parsing_fault (parse.Unclosed position) = Some (Unclosed position)
+parsing_fault (parse.Unopened position) = Some (Unopened position)
+parsing_fault (parse.TooDeep position) = Some (TooDeep position)
+parsing_fault (parse.Shape position) = Some (Shape position)
+parsing_fault (parse.Unsupported position) = Some (Unsupported position)
+parsing_fault parse.OutOfMemory = None
+
+-- so far every fault of a task or of an instance is told as a text that is not supported
+abbrev pub numbering_fault : NumberingRefusal → Option Fault
+numbering_fault numbering.Faulty = Some (Unsupported 0)
+numbering_fault numbering.OutOfMemory = None
+
+abbrev pub ground_fault : GroundRefusal → Option Fault
+ground_fault (grounded.TooManyAtoms count) = Some (Atoms count)
+ground_fault grounded.OutOfMemory = None
+
+-- the reply tells the fault that a refusal is
+abbrev pub Tells : {E : Type 0} → (E → Option Fault) → List ℕ → E → Reply → Type 0
+Tells fault_of name refusal reply = IsSomeAnd (fault_of refusal) (λ fault. reply ≡ fault_reply name fault)
+
+-- what telling a fault comes to: the reply that tells it, or want of memory
+abbrev pub IsTelling : List ℕ → Fault → Halt → Type 0
+IsTelling name fault (Early reply) = reply ≡ fault_reply name fault
+IsTelling name fault ReadFault = ⊥
+IsTelling name fault OutOfMemory = Unit {0}
+
+-- what a refusal comes to, by its fault: the reply that tells it; a refusal that is no fault is want of memory
+abbrev pub IsRefusing : List ℕ → Option Fault → Halt → Type 0
+IsRefusing name (Some fault) halt = IsTelling name fault halt
+IsRefusing name None halt = halt ≡ OutOfMemory

@@ -1,0 +1,128 @@
+ghost use Rattle.std.specs.Prelude.{◌≡◌, IfOk};
+ghost use Rattle.bfgp_tool.specs.Faults.{fault_reply, fault_text, IsTelling, IsRefusing};
+
+use crate::numbering::NumberingRefusal;
+use crate::reply::{Halt, Reply};
+use crate::status::Status;
+use flag_rules::{OutOfMemory, Text};
+use ground_state::GroundRefusal;
+use pddl_parser::ParseRefusal;
+use std::alloc::Global;
+use std::fmt;
+
+/// What is wrong with an input file.
+#[derive(Clone, Copy, Debug, PartialEq, Eq)]
+pub enum Fault {
+    /// No such file.
+    Absent,
+    /// The file has more bytes than the limit.
+    TooLong,
+    /// A byte that begins no token. This position and those below count bytes from 0.
+    Byte(u32),
+    /// A left parenthesis without its partner.
+    Unclosed(u32),
+    /// A right parenthesis without its partner.
+    Unopened(u32),
+    /// A left parenthesis that is nested too deep.
+    TooDeep(u32),
+    /// A token that fits no text.
+    Shape(u32),
+    /// A form, or a fault, that is not supported.
+    Unsupported(u32),
+    /// The instance has this many ground atoms, which is more than the limit.
+    Atoms(u64),
+}
+
+impl Fault {
+    ghost use Rattle.bfgp_tool.specs.Faults.{parsing_fault, numbering_fault, ground_fault};
+
+    /// The fault that a refusal of a text is, unless it is for want of memory.
+    pub fn of_text(refusal: ParseRefusal) -> Option<Fault>
+        ensures { result ≡ parsing_fault refusal }
+    {
+        match refusal {
+            ParseRefusal::Byte(position) => Some(Fault::Byte(position)),
+            ParseRefusal::Unclosed(position) => Some(Fault::Unclosed(position)),
+            ParseRefusal::Unopened(position) => Some(Fault::Unopened(position)),
+            ParseRefusal::TooDeep(position) => Some(Fault::TooDeep(position)),
+            ParseRefusal::Shape(position) => Some(Fault::Shape(position)),
+            ParseRefusal::Unsupported(position) => Some(Fault::Unsupported(position)),
+            ParseRefusal::OutOfMemory => None,
+        }
+    }
+
+    /// The fault that a refusal to number a text is, unless it is for want of memory.
+    pub fn of_numbering(refusal: NumberingRefusal) -> Option<Fault>
+        ensures { result ≡ numbering_fault refusal }
+    {
+        match refusal {
+            NumberingRefusal::Faulty => Some(Fault::Unsupported(0)),
+            NumberingRefusal::OutOfMemory => None,
+        }
+    }
+
+    /// The fault that a refusal to ground an instance is, unless it is for want of memory.
+    pub fn of_grounding(refusal: GroundRefusal) -> Option<Fault>
+        ensures { result ≡ ground_fault refusal }
+    {
+        match refusal {
+            GroundRefusal::TooManyAtoms(count) => Some(Fault::Atoms(count)),
+            GroundRefusal::OutOfMemory => None,
+        }
+    }
+}
+
+impl fmt::Display for Fault {
+    ghost use Rattle.std.specs.Prelude.{Some};
+    ghost use Rattle.bfgp_tool.specs.Faults.{fault_text};
+
+    ghost output = { λ fault. Some (fault_text fault) };
+
+    fn fmt<W: fmt::Write>(&self, f: &mut fmt::Formatter<W>) -> fmt::Result {
+        match self {
+            Fault::Absent => f.write_str("absent"),
+            Fault::TooLong => f.write_str("too long"),
+            Fault::Byte(position) => write!(f, "byte {position}"),
+            Fault::Unclosed(position) => write!(f, "unclosed {position}"),
+            Fault::Unopened(position) => write!(f, "unopened {position}"),
+            Fault::TooDeep(position) => write!(f, "too deep {position}"),
+            Fault::Shape(position) => write!(f, "shape {position}"),
+            Fault::Unsupported(position) => write!(f, "unsupported {position}"),
+            Fault::Atoms(count) => write!(f, "atoms {count}"),
+        }
+    }
+}
+
+/// Ends a job with the line that tells a fault of the file with this name.
+pub fn tell(alloc: Global, name: &[u8], fault: Fault) -> Halt
+    ensures { IsTelling name.now fault result }
+{
+    match reply_to(alloc, name, fault) {
+        Ok(reply) => Halt::Early(reply),
+        Err(_) => Halt::OutOfMemory,
+    }
+}
+
+/// Ends a job at a refusal: with the line of its fault, or, where it is none, for want of memory.
+pub fn refuse(alloc: Global, name: &[u8], fault: Option<Fault>) -> Halt
+    ensures { IsRefusing name.now fault result }
+{
+    match fault {
+        Some(fault) => tell(alloc, name, fault),
+        None => Halt::OutOfMemory,
+    }
+}
+
+fn reply_to(alloc: Global, name: &[u8], fault: Fault) -> Result<Reply, OutOfMemory>
+    ensures { IfOk result (λ reply. reply ≡ fault_reply name.now fault) }
+{
+    let mut text = Text::of(alloc, b"input ")?;
+    text.append(name)?;
+    text.append(b" ")?;
+    text.append(format!(in alloc; "{fault}")?.as_bytes())?;
+    text.push(b'\n')?;
+    Ok(Reply {
+        status: Status::Input,
+        text,
+    })
+}

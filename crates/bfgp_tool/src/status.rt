@@ -1,0 +1,22 @@
+/// How a run of the planner ended. The number of a status is the process's exit status.
+#[derive(Clone, Copy, Debug, PartialEq, Eq)]
+pub enum Status {
+    /// A program was found and written.
+    Done = 0,
+    /// No program of the asked size solves.
+    No = 1,
+    /// The words are no job; the usage text was written.
+    Usage = 2,
+    /// A file is absent, too long or refused; one fault line was written.
+    Input = 3,
+    /// The budget of splits was spent.
+    SpentExpansions = 4,
+    /// A run reached its limit of steps.
+    SpentRun = 5,
+    /// A file could not be read; nothing was written.
+    ReadFault = 6,
+    /// The output could not be written; a prefix of it was.
+    WriteFault = 7,
+    /// Memory could not be had; nothing was written.
+    OutOfMemory = 8,
+}

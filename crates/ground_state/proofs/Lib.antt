@@ -1,0 +1,8 @@
+pub mod Lists
+pub mod Places
+pub mod Counts
+pub mod States
+pub mod LawLemmas
+pub mod Plain
+pub mod Fixtures
+pub mod MetGoals

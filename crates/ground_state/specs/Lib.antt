@@ -1,0 +1,5 @@
+pub mod GroundAtoms
+pub mod Task
+pub mod Instance
+pub mod State
+pub mod Ground

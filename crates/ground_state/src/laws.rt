@@ -1,0 +1,22 @@
+ghost use Rattle.std.specs.Prelude.{◌≡◌, ◌≢◌, ◌↔◌, Contains};
+ghost use Rattle.ground_state.specs.declared.parts.Fact.{Fact};
+ghost use Rattle.ground_state.specs.declared.parts.TaskParts.{TaskParts};
+ghost use Rattle.ground_state.specs.declared.parts.InstanceParts.{InstanceParts};
+ghost use Rattle.ground_state.specs.Instance.{IsInstance};
+ghost use Rattle.ground_state.specs.State.{missing};
+ghost use Rattle.ground_state.specs.Ground.{ground_of};
+
+/// A law: no goal atom is missing at the start exactly where each fact that the goal lists is listed as true at the
+/// start.
+pub fn goal_is_met_exactly_where_listed()
+    ensures { (task : TaskParts) (instance : InstanceParts) → IsInstance task instance →
+        (missing (ground_of task instance).goal (ground_of task instance).initial ≡ 0)
+        ↔ ((fact : Fact) → Contains instance.goal fact → Contains instance.init fact) }
+{}
+
+/// A law: where a goal atom is missing at the start, the goal lists a fact that is not listed as true at the start.
+pub fn unmet_goal_has_a_fact_not_listed()
+    ensures { (task : TaskParts) (instance : InstanceParts) → IsInstance task instance →
+        missing (ground_of task instance).goal (ground_of task instance).initial ≢ 0 →
+        (fact : Fact) × Contains instance.goal fact × ¬ Contains instance.init fact }
+{}

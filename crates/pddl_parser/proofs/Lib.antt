@@ -1,0 +1,6 @@
+mod Exact
+mod Fronts
+mod Items
+mod Pieces
+pub mod Spelling
+pub mod Wholes

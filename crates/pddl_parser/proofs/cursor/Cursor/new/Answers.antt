@@ -1,0 +1,5 @@
+use Rattle.pddl_parser.proofs.Fronts.{AreWithin-from_InOrder}
+use Rattle.pddl_parser.proofs.cursor.Cursor.new.Goals as goal
+
+pub invariant_of-result : goal.invariant_of-result
+invariant_of-result c = AreWithin-from_InOrder _ 0 _ c.requires

@@ -1,0 +1,5 @@
+pub mod Grammar
+pub mod Lexemes
+pub mod Lexing
+pub mod Reading
+pub mod Replies

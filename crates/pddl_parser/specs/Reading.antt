@@ -1,0 +1,167 @@
+-- Reading lexeme by lexeme: what a part of a text gives, or why it is none and where.
+use Rattle.std.specs.Prelude.{◌≡◌, ℕ, zero, suc, Bool, true, false, ◌||◌, ◌&&◌, List, [], ◌∷◌, length, drop, Result, Ok, Err, None, codes, bytes_eq, if◌then◌else◌}
+use Rattle.std.specs.List.{list_any}
+use Rattle.pddl_parser.specs.declared.lexer.Kind.{Kind}
+use Rattle.pddl_parser.specs.declared.lexer.Kind.TheVariants.{LeftParen, RightParen, Name, Variable, Keyword, Dash, Equal}
+use Rattle.pddl_parser.specs.declared.stop.Why.{Why}
+use Rattle.pddl_parser.specs.declared.stop.Why.TheVariants.{Shape, Unsupported}
+use Rattle.pddl_parser.specs.declared.stop.Stop.{Stop}
+use Rattle.pddl_parser.specs.declared.stop.Stop.TheVariants.{Refused, OutOfMemory}
+use Rattle.pddl_parser.specs.declared.texts.Word.{Word}
+use Rattle.pddl_parser.specs.declared.texts.Typed.{Typed}
+use Rattle.pddl_parser.specs.declared.texts.AtomText.{AtomText}
+use Rattle.pddl_parser.specs.declared.texts.PredText.{PredText}
+use Rattle.pddl_parser.specs.declared.texts.DomainText.{DomainText}
+use Rattle.pddl_parser.specs.declared.texts.ProblemText.{ProblemText}
+use Rattle.pddl_parser.specs.Lexemes.{Lexeme, left, right, name, variable, keyword, dash, equal}
+use Rattle.pddl_parser.specs.Grammar.{word, reserved_heads}
+
+-- a value and the lexemes after it, or the kind of fault and the lexemes from the offending one on
+pub data Read (A : Type 0) : Type 0 where
+  got : A → List Lexeme → Read A
+  stuck : Why → List Lexeme → Read A
+
+-- one part, and then what is read of the rest
+unfoldable pub and_then : {A B : Type 0} → Read A → (A → List Lexeme → Read B) → Read B
+and_then (got value rest) further = further value rest
+and_then (stuck why bad) further = stuck why bad
+
+-- the lexeme is of this kind
+abbrev pub is_of : Kind → Lexeme → Bool
+is_of LeftParen (left at) = true
+is_of RightParen (right at) = true
+is_of Name (name text at) = true
+is_of Variable (variable text at) = true
+is_of Keyword (keyword text at) = true
+is_of Dash (dash at) = true
+is_of Equal (equal at) = true
+is_of _ _ = false
+
+-- the kinds of tokens that are words
+abbrev pub is_word : Kind → Bool
+is_word Name = true
+is_word Variable = true
+is_word Keyword = true
+is_word _ = false
+
+-- the word of a lexeme; a mark has none
+abbrev pub word_of : Lexeme → Word
+word_of (name text at) = word text at
+word_of (variable text at) = word text at
+word_of (keyword text at) = word text at
+word_of _ = word [] 0
+
+-- a lexeme of this kind comes first
+abbrev pub comes : Kind → List Lexeme → Bool
+comes kind [] = false
+comes kind (t ∷ ts) = is_of kind t
+
+-- a word of this kind comes first, with this text
+abbrev pub comes_as : Kind → List ℕ → List Lexeme → Bool
+comes_as kind text [] = false
+comes_as kind text (t ∷ ts) = is_of kind t && bytes_eq (word_of t).text text
+
+-- what may not head an atom comes first
+abbrev pub comes_reserved : List Lexeme → Bool
+comes_reserved ts = comes Equal ts || list_any (λ text. comes_as Name text ts) reserved_heads
+
+-- the first word
+abbrev pub first_word : List Lexeme → Word
+first_word [] = word [] 0
+first_word (t ∷ ts) = word_of t
+
+-- a lexeme that was looked for, if it is there
+abbrev pub passing : {A : Type 0} → Bool → A → List Lexeme → Read A
+passing found value ts = if found then got value (drop 1 ts) else stuck Shape ts
+
+-- a lexeme of a kind
+abbrev pub mark : Kind → List Lexeme → Read (Unit {0})
+mark kind ts = passing (comes kind ts) tt ts
+
+-- a given word
+abbrev pub literal : Kind → List ℕ → List Lexeme → Read (Unit {0})
+literal kind text ts = passing (comes_as kind text ts) tt ts
+
+-- any word of a kind
+abbrev pub any_word : Kind → List Lexeme → Read Word
+any_word kind ts = passing (comes kind ts) (first_word ts) ts
+
+-- any word of a kind, without a type
+abbrev pub untyped : Kind → List Lexeme → Read Typed
+untyped kind ts = passing (comes kind ts) (record { word = first_word ts; of = None }) ts
+
+-- a name that is not reserved
+abbrev pub head : List Lexeme → Read Word
+head ts = if comes_reserved ts then stuck Unsupported ts else any_word Name ts
+
+-- an item before others, if these could be read
+abbrev pub before_others : {A : Type 0} → A → Read (List A) → Read (List A)
+before_others item (got items rest) = got (item ∷ items) rest
+before_others item (stuck why bad) = stuck why bad
+
+-- at most so many items, up to the right parenthesis
+abbrev pub items_within : {A : Type 0} → (List Lexeme → Read A) → ℕ → List Lexeme → Read (List A)
+items_within item zero ts = stuck Shape ts
+items_within item (suc room) ts =
+    if comes RightParen ts then got [] (drop 1 ts)
+    else and_then (item ts) (λ value rest. before_others value (items_within item room rest))
+
+-- items, one after another, up to the right parenthesis. Each takes a lexeme, so there is room for all
+unfoldable pub many : {A : Type 0} → (List Lexeme → Read A) → List Lexeme → Read (List A)
+many item ts = items_within item (suc (length ts)) ts
+
+-- ( HEAD NAME* )
+unfoldable pub ground_atom : List Lexeme → Read AtomText
+ground_atom ts =
+    and_then (mark LeftParen ts) (λ _ ts. and_then (head ts) (λ head ts. and_then (many (any_word Name) ts) (λ args rest.
+    got (record { head = head; args = args }) rest)))
+
+-- ( HEAD VARIABLE* )
+unfoldable pub predicate : List Lexeme → Read PredText
+predicate ts =
+    and_then (mark LeftParen ts) (λ _ ts. and_then (head ts) (λ head ts. and_then (many (untyped Variable) ts) (λ params rest.
+    got (record { head = head; params = params }) rest)))
+
+-- ( define ( KIND NAME )
+unfoldable pub opening : List ℕ → List Lexeme → Read Word
+opening kind ts =
+    and_then (mark LeftParen ts) (λ _ ts. and_then (literal Name (codes "define") ts) (λ _ ts. and_then (mark LeftParen ts) (λ _ ts.
+    and_then (literal Name kind ts) (λ _ ts. and_then (any_word Name ts) (λ own ts. and_then (mark RightParen ts) (λ _ rest.
+    got own rest))))))
+
+-- ( KEYWORD
+unfoldable pub section_key : List ℕ → List Lexeme → Read (Unit {0})
+section_key key ts = and_then (mark LeftParen ts) (λ _ ts. literal Keyword key ts)
+
+-- ( KEYWORD body
+abbrev pub section : {A : Type 0} → List ℕ → (List Lexeme → Read A) → List Lexeme → Read A
+section key body ts = and_then (section_key key ts) (λ _ ts. body ts)
+
+-- an item and a right parenthesis
+abbrev pub closed_item : {A : Type 0} → (List Lexeme → Read A) → List Lexeme → Read A
+closed_item item ts = and_then (item ts) (λ value ts. and_then (mark RightParen ts) (λ _ rest. got value rest))
+
+-- nothing is left
+abbrev pub end : List Lexeme → Read (Unit {0})
+end [] = got tt []
+end (t ∷ ts) = stuck Shape (t ∷ ts)
+
+-- the text of a domain, with what stands after it left
+unfoldable pub domain : List Lexeme → Read DomainText
+domain ts =
+    and_then (opening (codes "domain") ts) (λ own ts. and_then (section (codes ":predicates") (many predicate) ts) (λ predicates ts. and_then (mark RightParen ts) (λ _ rest.
+    got (record { name = own; requirements = []; types = []; constants = []; predicates = predicates; actions = [] }) rest)))
+
+-- the text of a problem, with what stands after it left
+unfoldable pub problem : List Lexeme → Read ProblemText
+problem ts =
+    and_then (opening (codes "problem") ts) (λ own ts. and_then (section (codes ":domain") (closed_item (any_word Name)) ts) (λ domain ts.
+    and_then (section (codes ":objects") (many (untyped Name)) ts) (λ objects ts. and_then (section (codes ":init") (many ground_atom) ts) (λ init ts.
+    and_then (section (codes ":goal") (closed_item ground_atom) ts) (λ goal ts. and_then (mark RightParen ts) (λ _ rest.
+    got (record { name = own; domain = domain; requirements = []; objects = objects; init = init; goal = goal ∷ [] }) rest))))))
+
+-- a call answered what is read, and left the rest, or the lexemes from the offending one on; want of memory says nothing
+abbrev pub Reads : {A : Type 0} → Read A → Result A Stop → List Lexeme → Type 0
+Reads read (Ok value) rest = read ≡ got value rest
+Reads read (Err (Refused why)) rest = read ≡ stuck why rest
+Reads read (Err OutOfMemory) rest = Unit {0}

@@ -1,0 +1,165 @@
+ghost use Rattle.std.specs.Prelude.{◌≡◌, true, length, drop};
+ghost use Rattle.pddl_parser.specs.Lexemes.{lexemes, lower};
+ghost use Rattle.pddl_parser.specs.Lexing.{InOrder};
+ghost use Rattle.pddl_parser.specs.Reading.{Reads, is_word, comes, comes_as, comes_reserved, mark, literal, any_word, untyped, end, head};
+
+use crate::lexer::{Kind, Token};
+use crate::stop::{Stop, Why};
+use crate::texts::{Typed, Word};
+use flag_rules::Text;
+use std::alloc::Global;
+use std::marker::Model;
+
+/// The tokens of a text that are still to be read. Contracts see the lexemes.
+#[derive(Drop)]
+pub struct Cursor<'a> {
+    bytes: &'a [u8],
+    tokens: &'a [Token],
+}
+
+impl<'a> Model for Cursor<'a> {
+    ghost use Rattle.std.specs.Prelude.{List};
+    ghost use Rattle.pddl_parser.specs.Lexemes.{Lexeme, lexemes, AreWithin};
+
+    ghost Value = { List Lexeme };
+
+    ghost view = { λ cursor. lexemes cursor.bytes.now cursor.tokens.now };
+
+    ghost invariant = { λ cursor. AreWithin cursor.bytes.now cursor.tokens.now };
+}
+
+impl<'a> Cursor<'a> {
+    /// All the tokens of a text.
+    pub fn new(bytes: &'a [u8], tokens: &'a [Token]) -> Cursor<'a>
+        requires { InOrder 0 (length bytes.now) tokens.now }
+        ensures { result ≡ lexemes bytes.now tokens.now }
+    {
+        Cursor { bytes, tokens }
+    }
+
+    /// Whether a token of this kind comes first.
+    pub fn is_at(&self, kind: Kind) -> bool
+        ensures { result ≡ comes kind self.now }
+    {
+        match self.tokens {
+            [first, ..] => first.kind == kind,
+            [] => false,
+        }
+    }
+
+    /// Whether this word comes first, in letters of either case.
+    pub fn is_at_word(&self, kind: Kind, text: &[u8]) -> bool
+        requires word { is_word kind ≡ true }
+        requires lower { lower text.now ≡ text.now }
+        ensures { result ≡ comes_as kind text.now self.now }
+    {
+        match self.tokens {
+            [first, ..] => {
+                first.kind == kind
+                    && self.bytes[first.from as usize..first.to as usize].eq_ignore_ascii_case(text)
+            }
+            [] => false,
+        }
+    }
+
+    /// Passes the first token, if there is one.
+    pub fn pass(&mut self)
+        ensures { self.new ≡ drop 1 self.old }
+    {
+        if let [_, rest @ ..] = self.tokens {
+            self.tokens = rest;
+        }
+    }
+
+    /// Whether what may not head an atom comes first: a reserved name or the equality sign.
+    fn is_at_reserved(&self) -> bool
+        ensures { result ≡ comes_reserved self.now }
+    {
+        self.is_at(Kind::Equal)
+            || self.is_at_word(Kind::Name, b"and")
+            || self.is_at_word(Kind::Name, b"not")
+            || self.is_at_word(Kind::Name, b"or")
+            || self.is_at_word(Kind::Name, b"imply")
+            || self.is_at_word(Kind::Name, b"forall")
+            || self.is_at_word(Kind::Name, b"exists")
+            || self.is_at_word(Kind::Name, b"when")
+            || self.is_at_word(Kind::Name, b"either")
+            || self.is_at_word(Kind::Name, b"increase")
+            || self.is_at_word(Kind::Name, b"decrease")
+            || self.is_at_word(Kind::Name, b"assign")
+            || self.is_at_word(Kind::Name, b"scale-up")
+            || self.is_at_word(Kind::Name, b"scale-down")
+    }
+
+    /// Reads a token of a kind.
+    pub fn mark(&mut self, kind: Kind) -> Result<(), Stop>
+        ensures { Reads (mark kind self.old) result self.new }
+    {
+        if !self.is_at(kind) {
+            return Err(Stop::Refused(Why::Shape));
+        }
+        self.pass();
+        Ok(())
+    }
+
+    /// Reads a given word, which is in lower case.
+    pub fn literal(&mut self, kind: Kind, text: &[u8]) -> Result<(), Stop>
+        requires word { is_word kind ≡ true }
+        requires lower { lower text.now ≡ text.now }
+        ensures { Reads (literal kind text.now self.old) result self.new }
+    {
+        if !self.is_at_word(kind, text) {
+            return Err(Stop::Refused(Why::Shape));
+        }
+        self.pass();
+        Ok(())
+    }
+
+    /// Reads any word of a kind.
+    pub fn any_word(&mut self, alloc: Global, kind: Kind) -> Result<Word, Stop>
+        requires { is_word kind ≡ true }
+        ensures { Reads (any_word kind self.old) result self.new }
+    {
+        match self.tokens {
+            [first, rest @ ..] if first.kind == kind => {
+                let bytes = &self.bytes[first.from as usize..first.to as usize];
+                let text = Text::from_vec(bytes.to_ascii_lowercase(alloc)?);
+                self.tokens = rest;
+                Ok(Word {
+                    text,
+                    at: first.from,
+                })
+            }
+            _ => Err(Stop::Refused(Why::Shape)),
+        }
+    }
+
+    /// Reads any word of a kind, without a type.
+    pub fn untyped(&mut self, alloc: Global, kind: Kind) -> Result<Typed, Stop>
+        requires { is_word kind ≡ true }
+        ensures { Reads (untyped kind self.old) result self.new }
+    {
+        let word = self.any_word(alloc, kind)?;
+        Ok(Typed { word, of: None })
+    }
+
+    /// Reads the end of the text.
+    pub fn end(&self) -> Result<(), Stop>
+        ensures { Reads (end self.now) result self.now }
+    {
+        if !self.tokens.is_empty() {
+            return Err(Stop::Refused(Why::Shape));
+        }
+        Ok(())
+    }
+
+    /// Reads the head of an atom or of a predicate.
+    pub fn head(&mut self, alloc: Global) -> Result<Word, Stop>
+        ensures { Reads (head self.old) result self.new }
+    {
+        if self.is_at_reserved() {
+            return Err(Stop::Refused(Why::Unsupported));
+        }
+        self.any_word(alloc, Kind::Name)
+    }
+}

@@ -1,0 +1,196 @@
+ghost use Rattle.std.specs.Prelude.{◌≡◌, true, codes};
+ghost use Rattle.pddl_parser.specs.Lexemes.{lower};
+ghost use Rattle.pddl_parser.specs.Reading.{Reads, is_word, any_word, untyped, many, ground_atom, predicate, opening, section_key, section, closed_item, domain, problem};
+ghost use Rattle.pddl_parser.specs.declared.lexer.Kind.TheVariants.{Name, Variable};
+
+use crate::cursor::Cursor;
+use crate::lexer::Kind;
+use crate::stop::Stop;
+use crate::texts::{AtomText, DomainText, PredText, ProblemText, Typed, Word};
+use flag_rules::List;
+use std::alloc::Global;
+
+/// Names, up to the right parenthesis.
+fn names(alloc: Global, cursor: &mut Cursor<'_>) -> Result<List<Word>, Stop>
+    ensures { Reads (many (any_word Name) cursor.old) result cursor.new }
+{
+    let mut words = List::new(alloc);
+    while !cursor.is_at(Kind::RightParen) {
+        words.push(cursor.any_word(alloc, Kind::Name)?)?;
+    }
+    cursor.pass();
+    Ok(words)
+}
+
+/// Names or variables without a type, up to the right parenthesis.
+fn untyped_list(alloc: Global, cursor: &mut Cursor<'_>, kind: Kind) -> Result<List<Typed>, Stop>
+    requires { is_word kind ≡ true }
+    ensures { Reads (many (untyped kind) cursor.old) result cursor.new }
+{
+    let mut words = List::new(alloc);
+    while !cursor.is_at(Kind::RightParen) {
+        words.push(cursor.untyped(alloc, kind)?)?;
+    }
+    cursor.pass();
+    Ok(words)
+}
+
+/// `( HEAD NAME* )`
+#[tactic(auto, unfolding(crate::specs::Reading::and_then, crate::specs::Reading::ground_atom))]
+fn ground_atom(alloc: Global, cursor: &mut Cursor<'_>) -> Result<AtomText, Stop>
+    ensures { Reads (ground_atom cursor.old) result cursor.new }
+{
+    cursor.mark(Kind::LeftParen)?;
+    let head = cursor.head(alloc)?;
+    let args = names(alloc, cursor)?;
+    Ok(AtomText { head, args })
+}
+
+/// Atoms, up to the right parenthesis.
+fn ground_atoms(alloc: Global, cursor: &mut Cursor<'_>) -> Result<List<AtomText>, Stop>
+    ensures { Reads (many ground_atom cursor.old) result cursor.new }
+{
+    let mut atoms = List::new(alloc);
+    while !cursor.is_at(Kind::RightParen) {
+        atoms.push(ground_atom(alloc, cursor)?)?;
+    }
+    cursor.pass();
+    Ok(atoms)
+}
+
+/// `( HEAD VARIABLE* )`
+#[tactic(auto, unfolding(crate::specs::Reading::and_then, crate::specs::Reading::predicate))]
+fn predicate(alloc: Global, cursor: &mut Cursor<'_>) -> Result<PredText, Stop>
+    ensures { Reads (predicate cursor.old) result cursor.new }
+{
+    cursor.mark(Kind::LeftParen)?;
+    let head = cursor.head(alloc)?;
+    let params = untyped_list(alloc, cursor, Kind::Variable)?;
+    Ok(PredText { head, params })
+}
+
+/// Predicates, up to the right parenthesis.
+fn predicates(alloc: Global, cursor: &mut Cursor<'_>) -> Result<List<PredText>, Stop>
+    ensures { Reads (many predicate cursor.old) result cursor.new }
+{
+    let mut predicates = List::new(alloc);
+    while !cursor.is_at(Kind::RightParen) {
+        predicates.push(predicate(alloc, cursor)?)?;
+    }
+    cursor.pass();
+    Ok(predicates)
+}
+
+/// `( define ( KIND NAME )`
+#[tactic(auto, unfolding(crate::specs::Reading::and_then, crate::specs::Reading::opening))]
+fn opening(alloc: Global, cursor: &mut Cursor<'_>, kind: &[u8]) -> Result<Word, Stop>
+    requires { lower kind.now ≡ kind.now }
+    ensures { Reads (opening kind.now cursor.old) result cursor.new }
+{
+    cursor.mark(Kind::LeftParen)?;
+    cursor.literal(Kind::Name, b"define")?;
+    cursor.mark(Kind::LeftParen)?;
+    cursor.literal(Kind::Name, kind)?;
+    let name = cursor.any_word(alloc, Kind::Name)?;
+    cursor.mark(Kind::RightParen)?;
+    Ok(name)
+}
+
+/// `( KEYWORD`
+#[tactic(auto, unfolding(crate::specs::Reading::and_then, crate::specs::Reading::section_key))]
+fn section_key(cursor: &mut Cursor<'_>, key: &[u8]) -> Result<(), Stop>
+    requires { lower key.now ≡ key.now }
+    ensures { Reads (section_key key.now cursor.old) result cursor.new }
+{
+    cursor.mark(Kind::LeftParen)?;
+    cursor.literal(Kind::Keyword, key)
+}
+
+/// `( :predicates pred* )`
+#[tactic(auto, unfolding(crate::specs::Reading::and_then))]
+fn predicates_section(alloc: Global, cursor: &mut Cursor<'_>) -> Result<List<PredText>, Stop>
+    ensures { Reads (section (codes ":predicates") (many predicate) cursor.old) result cursor.new }
+{
+    section_key(cursor, b":predicates")?;
+    predicates(alloc, cursor)
+}
+
+/// `( :domain NAME )`
+#[tactic(auto, unfolding(crate::specs::Reading::and_then))]
+fn domain_section(alloc: Global, cursor: &mut Cursor<'_>) -> Result<Word, Stop>
+    ensures { Reads (section (codes ":domain") (closed_item (any_word Name)) cursor.old) result cursor.new }
+{
+    section_key(cursor, b":domain")?;
+    let domain = cursor.any_word(alloc, Kind::Name)?;
+    cursor.mark(Kind::RightParen)?;
+    Ok(domain)
+}
+
+/// `( :objects NAME* )`
+#[tactic(auto, unfolding(crate::specs::Reading::and_then))]
+fn objects_section(alloc: Global, cursor: &mut Cursor<'_>) -> Result<List<Typed>, Stop>
+    ensures { Reads (section (codes ":objects") (many (untyped Name)) cursor.old) result cursor.new }
+{
+    section_key(cursor, b":objects")?;
+    untyped_list(alloc, cursor, Kind::Name)
+}
+
+/// `( :init gatom* )`
+#[tactic(auto, unfolding(crate::specs::Reading::and_then))]
+fn init_section(alloc: Global, cursor: &mut Cursor<'_>) -> Result<List<AtomText>, Stop>
+    ensures { Reads (section (codes ":init") (many ground_atom) cursor.old) result cursor.new }
+{
+    section_key(cursor, b":init")?;
+    ground_atoms(alloc, cursor)
+}
+
+/// `( :goal gatom )`
+#[tactic(auto, unfolding(crate::specs::Reading::and_then))]
+fn goal_section(alloc: Global, cursor: &mut Cursor<'_>) -> Result<AtomText, Stop>
+    ensures { Reads (section (codes ":goal") (closed_item ground_atom) cursor.old) result cursor.new }
+{
+    section_key(cursor, b":goal")?;
+    let goal = ground_atom(alloc, cursor)?;
+    cursor.mark(Kind::RightParen)?;
+    Ok(goal)
+}
+
+/// The text of a domain, with what stands after it left.
+#[tactic(auto, unfolding(crate::specs::Reading::and_then, crate::specs::Reading::domain))]
+pub fn domain_text(alloc: Global, cursor: &mut Cursor<'_>) -> Result<DomainText, Stop>
+    ensures { Reads (domain cursor.old) result cursor.new }
+{
+    let name = opening(alloc, cursor, b"domain")?;
+    let predicates = predicates_section(alloc, cursor)?;
+    cursor.mark(Kind::RightParen)?;
+    Ok(DomainText {
+        name,
+        requirements: List::new(alloc),
+        types: List::new(alloc),
+        constants: List::new(alloc),
+        predicates,
+        actions: List::new(alloc),
+    })
+}
+
+/// The text of a problem, with what stands after it left.
+#[tactic(auto, unfolding(crate::specs::Reading::and_then, crate::specs::Reading::problem))]
+pub fn problem_text(alloc: Global, cursor: &mut Cursor<'_>) -> Result<ProblemText, Stop>
+    ensures { Reads (problem cursor.old) result cursor.new }
+{
+    let name = opening(alloc, cursor, b"problem")?;
+    let domain = domain_section(alloc, cursor)?;
+    let objects = objects_section(alloc, cursor)?;
+    let init = init_section(alloc, cursor)?;
+    let mut goal = List::new(alloc);
+    goal.push(goal_section(alloc, cursor)?)?;
+    cursor.mark(Kind::RightParen)?;
+    Ok(ProblemText {
+        name,
+        domain,
+        requirements: List::new(alloc),
+        objects,
+        init,
+        goal,
+    })
+}
