@@ -1,0 +1,1 @@
+(define (domain lights) (:predicates (lit ?x)))

@@ -1,0 +1,1 @@
+(define (problem one) (:domain lights) (:objects a) (:init (lit a)) (:goal (lit a)))
