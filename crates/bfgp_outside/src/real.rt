@@ -17,8 +17,8 @@ pub struct RealShelf<'a, R> {
 impl<'a, R: Files> RealShelf<'a, R> {
     /// The files of a system.
     pub fn new(system: &'a R) -> RealShelf<'a, R>
-        ensures faults { result.faults ≡ 0 }
-        ensures absences { result.absences ≡ 0 }
+        ensures faults { ⟦<RealShelf<'a, R> as Shelf>⟧.faults result ≡ 0 }
+        ensures absences { ⟦<RealShelf<'a, R> as Shelf>⟧.absences result ≡ 0 }
     {
         RealShelf {
             system,
@@ -99,7 +99,7 @@ pub struct RealSink<'a, P> {
 impl<'a, P: Print> RealSink<'a, P> {
     /// The output of a system.
     pub fn new(output: &'a P) -> RealSink<'a, P>
-        ensures { result.faults ≡ 0 }
+        ensures { ⟦<RealSink<'a, P> as Sink>⟧.faults result ≡ 0 }
     {
         RealSink { output, faults: 0 }
     }

@@ -8,10 +8,11 @@ use crate::fault::{Fault, tell};
 use crate::reply::Halt;
 use bfgp_outside::{ReadRefusal, Shelf, read_whole};
 use flag_rules::Text;
+use pddl_parser::LONGEST;
 use std::alloc::Global;
 
 /// How many bytes a domain or an instance may have.
-pub const MAX_INPUT_BYTES: u64 = 1_048_576;
+pub const MAX_INPUT_BYTES: u64 = LONGEST as u64;
 
 /// Reads an input file whole.
 pub fn read_input<S: Shelf>(alloc: Global, shelf: &mut S, name: &[u8]) -> Result<Text, Halt>
