@@ -7,6 +7,5 @@ pub mod SpelledNames
 pub mod Sequels
 pub mod Synths
 pub mod Replying
-pub mod Written
 pub mod Headlines
 pub mod Documents

@@ -35,7 +35,8 @@ end of answer
 
 /// The reply where the program `end` solves the instance.
 pub fn solved(alloc: Global) -> Result<Reply, OutOfMemory>
-    ensures { IfOk result (λ reply. reply ≡ record { status = Done; text = solved_document (End ∷ []) 0 }) }
+    ensures { IfOk result (λ reply.
+        reply ≡ record { status = Done; text = solved_document (End ∷ []) 0 }) }
 {
     Ok(Reply {
         status: Status::Done,

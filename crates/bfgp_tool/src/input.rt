@@ -18,7 +18,8 @@ pub const MAX_INPUT_BYTES: u64 = LONGEST as u64;
 pub fn read_input<S: Shelf>(alloc: Global, shelf: &mut S, name: &[u8]) -> Result<Text, Halt>
     ensures due { Knowing (S.files shelf.old) (λ files. Gives (file_due files name.now) result) }
     ensures within { IfOk result (λ text. length text ≤ MAX_INPUT_BYTES) }
-    ensures cause { IfErr result (HaltCause (S.faults shelf.old) (S.faults shelf.new) (S.absences shelf.old) (S.absences shelf.new)) }
+    ensures cause { IfErr result
+        (HaltCause (S.faults shelf.old) (S.faults shelf.new) (S.absences shelf.old) (S.absences shelf.new)) }
     ensures goes_on { GoesOn S.files S.faults S.absences shelf.old shelf.new }
 {
     match read_whole(alloc, shelf, name, MAX_INPUT_BYTES) {

@@ -18,9 +18,11 @@ pub fn synth<S: Shelf>(
     domain_name: &[u8],
     instance_name: &[u8],
 ) -> Result<Reply, Halt>
-    ensures due { Knowing (S.files shelf.old) (λ files. Gives (synth_due files domain_name.now instance_name.now) result) }
+    ensures due { Knowing (S.files shelf.old)
+        (λ files. Gives (synth_due files domain_name.now instance_name.now) result) }
     ensures verdict { IfOk result (λ reply. IsVerdict reply.status) }
-    ensures cause { IfErr result (HaltCause (S.faults shelf.old) (S.faults shelf.new) (S.absences shelf.old) (S.absences shelf.new)) }
+    ensures cause { IfErr result
+        (HaltCause (S.faults shelf.old) (S.faults shelf.new) (S.absences shelf.old) (S.absences shelf.new)) }
     ensures goes_on { GoesOn S.files S.faults S.absences shelf.old shelf.new }
 {
     let domain_bytes = read_input(alloc, shelf, domain_name)?;

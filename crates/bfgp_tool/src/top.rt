@@ -34,7 +34,8 @@ pub fn bfgp<S: Shelf, K: Sink>(
     // What stands over every shelf.
     ensures usage { UsageIsExact (map string_bytes words.now) result (K.written out.old) (K.written out.new) }
     ensures input { result ≡ Status.Input →
-        InputCause (S.absences shelf.old) (S.absences shelf.new) (K.written out.old) (K.written out.new) }
+        InputCause (S.absences shelf.old) (S.absences shelf.new)
+        (K.written out.old) (K.written out.new) }
     ensures read { result ≡ Status.ReadFault → Rose (S.faults shelf.old) (S.faults shelf.new) }
     ensures write { result ≡ Status.WriteFault → Rose (K.faults out.old) (K.faults out.new) }
     ensures silent { IsSilent result (K.written out.old) (K.written out.new) }
@@ -53,9 +54,11 @@ pub fn bfgp<S: Shelf, K: Sink>(
 
 // All that can fail for input or memory; the reply that it gives is then written without either.
 fn reply_to<S: Shelf>(alloc: Global, words: &[String], shelf: &mut S) -> Result<Reply, Halt>
-    ensures due { Knowing (S.files shelf.old) (λ files. OnReply result (Due (map string_bytes words.now) files)) }
+    ensures due { Knowing (S.files shelf.old)
+        (λ files. OnReply result (Due (map string_bytes words.now) files)) }
     ensures usage { RepliesUsage (map string_bytes words.now) result }
-    ensures input { OnReply result (λ reply. reply.status ≡ Status.Input → TellsFault (S.absences shelf.old) (S.absences shelf.new) reply) }
+    ensures input { OnReply result (λ reply. reply.status ≡ Status.Input →
+        TellsFault (S.absences shelf.old) (S.absences shelf.new) reply) }
     ensures status { OnReply result (λ reply. IsReplyStatus reply.status) }
     ensures read { result ≡ Err Halt.ReadFault → Rose (S.faults shelf.old) (S.faults shelf.new) }
     ensures goes_on { GoesOn S.files S.faults S.absences shelf.old shelf.new }
@@ -70,7 +73,8 @@ fn reply_to<S: Shelf>(alloc: Global, words: &[String], shelf: &mut S) -> Result<
 fn run<S: Shelf>(alloc: Global, shelf: &mut S, job: &Job) -> Result<Reply, Halt>
     ensures due { Knowing (S.files shelf.old) (λ files. Gives (job_due files job.now) result) }
     ensures verdict { IfOk result (λ reply. IsVerdict reply.status) }
-    ensures cause { IfErr result (HaltCause (S.faults shelf.old) (S.faults shelf.new) (S.absences shelf.old) (S.absences shelf.new)) }
+    ensures cause { IfErr result
+        (HaltCause (S.faults shelf.old) (S.faults shelf.new) (S.absences shelf.old) (S.absences shelf.new)) }
     ensures goes_on { GoesOn S.files S.faults S.absences shelf.old shelf.new }
 {
     synth(alloc, shelf, job.domain.as_slice(), job.instance.as_slice())
@@ -78,7 +82,8 @@ fn run<S: Shelf>(alloc: Global, shelf: &mut S, job: &Job) -> Result<Reply, Halt>
 
 fn write<K: Sink>(out: &mut K, reply: &Reply) -> Status
     requires { IsReplyStatus reply.now.status }
-    ensures writes { Writes reply.now (K.faults out.old) (K.faults out.new) result (K.written out.old) (K.written out.new) }
+    ensures writes { Writes reply.now (K.faults out.old) (K.faults out.new) result
+        (K.written out.old) (K.written out.new) }
     ensures later { K.faults out.old ≤ K.faults out.new }
 {
     match put_all(out, reply.text.as_slice()) {
