@@ -3,6 +3,4 @@ pub mod Places
 pub mod Counts
 pub mod States
 pub mod LawLemmas
-pub mod Plain
-pub mod Fixtures
 pub mod MetGoals

@@ -19,6 +19,3 @@ pub use parts::{
 pub use refusal::GroundRefusal;
 pub use table::AtomTable;
 pub use task::{Instance, Task};
-
-#[cfg(test)]
-mod tests;
