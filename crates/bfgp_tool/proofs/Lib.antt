@@ -9,3 +9,7 @@ pub mod Synths
 pub mod Replying
 pub mod Headlines
 pub mod Documents
+pub mod Decided
+pub mod Determined
+pub mod OneReply
+pub mod Written

@@ -7,6 +7,7 @@ mod fault;
 mod input;
 mod instance_reading;
 mod job;
+mod laws;
 mod names;
 mod numbering;
 mod reply;

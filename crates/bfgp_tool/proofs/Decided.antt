@@ -1,0 +1,53 @@
+-- Steps that come to one result at most.
+use Rattle.std.proofs.Common.{◌≡◌, ℕ, List, Option, Some, None, Result, Ok, Err, refl, sym, ◌∙◌, ap, subst}
+use Rattle.std.specs.Prelude.{IsSomeAnd}
+use Rattle.bfgp_tool.specs.declared.reply.Reply.{Reply}
+use Rattle.bfgp_tool.specs.declared.fault.Fault.{Fault}
+use Rattle.bfgp_tool.specs.Faults.{fault_reply}
+use Rattle.bfgp_tool.specs.Steps.{◌>>=◌, goes_on, ends, or_tell, pure}
+
+-- the step comes to one result at most
+pub record IsDecided {A : Type 0} (step : Result A Reply → Type 0) : Type 0 where
+  pub one : (r s : Result A Reply) → step r → step s → r ≡ s
+
+pub pure_decided : {A : Type 0} (a : A) → IsDecided (pure a)
+pure_decided a = record { one = λ r s p q. p ∙ sym q }
+
+-- a step, and then what follows from each value that it may come to
+pub then_decided : {A B : Type 0} {step : Result A Reply → Type 0} {next : A → Result B Reply → Type 0} → IsDecided step → ((a : A) → step (Ok a) → IsDecided (next a)) → IsDecided (step >>= next)
+then_decided {A} {B} {step} {next} here later = record { one = both }
+  where
+    both : (r s : Result B Reply) → (step >>= next) r → (step >>= next) s → r ≡ s
+    both r s (goes_on {a = a} p after) (goes_on {a = b} q then) =
+        let same = here.one (Ok a) (Ok b) p q in
+        let is : b ≡ a = cc in
+        (later a p).one r s after (subst (λ (v : A). next v s) is then)
+    both r _ (goes_on {a = a} p after) (ends {reply = y} q) = let same = here.one (Ok a) (Err y) p q in absurd (cc)
+    both _ s (ends {reply = x} p) (goes_on {a = b} q then) = let same = here.one (Err x) (Ok b) p q in absurd (cc)
+    both _ _ (ends {reply = x} p) (ends {reply = y} q) = let same = here.one (Err x) (Err y) p q in cc
+
+-- what a call may answer: one value at most, or one fault at most and then no value; other refusals do not count
+pub record IsDefinite {A E : Type 0} (fault_of : E → Option Fault) (Allowed : Result A E → Type 0) : Type 0 where
+  pub value : (a b : A) → Allowed (Ok a) → Allowed (Ok b) → a ≡ b
+  pub fault : Option Fault
+  pub tells : (e : E) (x : Fault) → Allowed (Err e) → fault_of e ≡ Some x → (fault ≡ Some x) × ((a : A) → Allowed (Ok a) → ⊥)
+
+-- the fault that a reply tells
+told : (o : Option Fault) (P : Fault → Type 0) → IsSomeAnd o P → (x : Fault) × (o ≡ Some x) × P x
+told (Some x) P known = (x, refl, known)
+told None P known = absurd known
+
+pub tell_decided : {A E : Type 0} {fault_of : E → Option Fault} {Allowed : Result A E → Type 0} (name : List ℕ) → IsDefinite fault_of Allowed → IsDecided (or_tell name fault_of Allowed)
+tell_decided {A} {E} {fault_of} {Allowed} name definite = record { one = both }
+  where
+    telling : (reply : Reply) → or_tell name fault_of Allowed (Err reply) → (x : Fault) × (reply ≡ fault_reply name x) × (definite.fault ≡ Some x) × ((a : A) → Allowed (Ok a) → ⊥)
+    telling reply p =
+        let t = told (fault_of p.0) (λ x. reply ≡ fault_reply name x) p.2 in
+        let known = definite.tells p.0 t.0 p.1 t.1 in
+        (t.0, t.2, known.0, known.1)
+
+    both : (r s : Result A Reply) → or_tell name fault_of Allowed r → or_tell name fault_of Allowed s → r ≡ s
+    both (Ok a) (Ok b) p q = ap Ok (definite.value a b p q)
+    both (Ok a) (Err y) p q = absurd ((telling y q).3 a p)
+    both (Err x) (Ok b) p q = absurd ((telling x p).3 b q)
+    both (Err x) (Err y) p q = let t = telling x p in let u = telling y q in let same : t.0 ≡ u.0 = cc in ap Err (t.1 ∙ ap (fault_reply name) same ∙ sym u.1)
