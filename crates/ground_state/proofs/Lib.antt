@@ -4,3 +4,4 @@ pub mod Counts
 pub mod States
 pub mod LawLemmas
 pub mod MetGoals
+pub mod Acting

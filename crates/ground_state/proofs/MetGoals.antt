@@ -1,5 +1,5 @@
 -- When a goal is met at the start, by what a problem lists.
-use Rattle.std.proofs.Common.{◌≡◌, ◌≢◌, ℕ, length, inl, inr}
+use Rattle.std.proofs.Common.{◌≡◌, ◌≢◌, length, inl, inr}
 use Rattle.std.specs.Prelude.{Contains}
 use Rattle.std.proofs.lemmas.List.Elements.{All-contains}
 use Rattle.ground_state.specs.declared.parts.TaskParts.{TaskParts}

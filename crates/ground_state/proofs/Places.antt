@@ -1,9 +1,9 @@
 -- Where tuples and ground atoms stand.
-use Rattle.std.proofs.Common.{◌≡◌, ℕ, zero, suc, ◌+◌, ◌*◌, ◌^◌, ◌<◌, ◌≤◌, List, [], ◌∷◌, ◌++◌, length, take, refl, ◌∙◌, inl, inr, ap, sym, arith, map, Some, length-append, add-zero, add-one, get_or}
+use Rattle.std.proofs.Common.{◌≡◌, ℕ, zero, suc, ◌+◌, ◌*◌, ◌^◌, ◌<◌, ◌≤◌, List, [], ◌∷◌, ◌++◌, length, take, refl, ◌∙◌, inl, inr, ap, sym, arith, map, Some, length-append, add-zero, add-one, get_or, All}
 use Rattle.std.proofs.Math.Nat.{pow-zero, pow-suc, pow-le-pow_right, pow-succ'}
 use Rattle.std.specs.List.{slice_get, range_with_len, flat_map}
 use Rattle.std.proofs.lemmas.Option.{slice_get_within}
-use Rattle.std.proofs.lemmas.List.{length-map, take_more}
+use Rattle.std.proofs.lemmas.List.{length-map, take_more, map_more, get_or-map}
 use Rattle.std.proofs.lemmas.Nat.{mul-add-lt}
 use Rattle.std.proofs.lemmas.List.Sums.{sum_by-cons}
 use Rattle.ground_state.specs.declared.parts.Fact.{Fact}
@@ -174,6 +174,11 @@ length-atoms_from objects pred (arity ∷ arities) =
 pub length-ground_atoms : (objects : ℕ) (arities : List ℕ) → length (ground_atoms objects arities) ≡ atom_count objects arities
 length-ground_atoms objects arities = length-atoms_from objects 0 arities
 
+-- an object that is read from an item of a list
+pub low_at : {X : Type 0} (f : X → ℕ) (objects i : ℕ) (xs : List X) (d : X) → All (λ object. object < objects) (map f xs) → i < length xs → f (get_or xs i d) < objects
+low_at f objects i xs d low within =
+    rw (get_or-map f xs i d 0 within) at (low i 0 (rw (length-map xs f) within))
+
 -- the next step of reading some objects as the digits of a number
 pub tuple_more : (objects i place object : ℕ) (args : List ℕ) → i < length args → object ≡ get_or args i 0 → object < objects → slice_get (tuples objects i) place ≡ Some (take i args) → slice_get (tuples objects (i + 1)) (place * objects + object) ≡ Some (take (i + 1) args)
 tuple_more objects i place object args within next low here =
@@ -181,12 +186,18 @@ tuple_more objects i place object args within next low here =
     let more = rw add-one at (take_more args i 0 within) in
     rw (add-one, more, ← next) longer
 
+-- the same step for objects that are read from other items
+pub tuple_more_at : {X : Type 0} (f : X → ℕ) (objects i place object : ℕ) (xs : List X) (d : X) → i < length xs → object ≡ f (get_or xs i d) → object < objects → slice_get (tuples objects i) place ≡ Some (map f (take i xs)) → slice_get (tuples objects (i + 1)) (place * objects + object) ≡ Some (map f (take (i + 1) xs))
+tuple_more_at f objects i place object xs d within next low here =
+    let longer = tuple_push objects i place (map f (take i xs)) object low here in
+    rw (map_more f xs i d within, ← next, add-one) longer
+
 -- that number stays small where there are few tuples
-pub tuple_fits : (objects i place object limit : ℕ) (args front : List ℕ) → i < length args → objects ^ length args ≤ limit → object < objects → slice_get (tuples objects i) place ≡ Some front → place * objects + object < limit
-tuple_fits objects i place object limit args front within few low here =
+pub tuple_fits : (objects i place object limit arity : ℕ) (front : List ℕ) → i < arity → objects ^ arity ≤ limit → object < objects → slice_get (tuples objects i) place ≡ Some front → place * objects + object < limit
+tuple_fits objects i place object limit arity front within few low here =
     let below : place < objects ^ i = rw length-tuples at (slice_get_within (tuples objects i) place front here) in
     let some : 0 < objects = omega arith in
-    let longer : objects ^ suc i ≤ objects ^ length args = pow-le-pow_right some (omega arith) in
+    let longer : objects ^ suc i ≤ objects ^ arity = pow-le-pow_right some (omega arith) in
     omega (arith, mul-add-lt place objects object (objects ^ i) below low, pow-succ' objects i)
 
 -- the place of a ground atom among all of them

@@ -3,3 +3,4 @@ pub mod Task
 pub mod Instance
 pub mod State
 pub mod Ground
+pub mod Action

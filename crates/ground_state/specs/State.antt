@@ -1,5 +1,5 @@
 -- States as sets of ground atoms. A state says of each ground atom, in their order, whether it is true.
-use Rattle.std.specs.Prelude.{ℕ, Bool, ◌&&◌, ◌==◌, not, List, map, zip, count_by}
+use Rattle.std.specs.Prelude.{ℕ, Bool, ◌&&◌, ◌||◌, ◌==◌, not, List, map, zip, count_by}
 use Rattle.std.specs.Str.{bytes_eq}
 use Rattle.std.specs.List.{list_any, items_where_true}
 use Rattle.ground_state.specs.declared.parts.Fact.{Fact}
@@ -23,3 +23,15 @@ true_atoms objects arities state = items_where_true state (ground_atoms objects 
 -- how many atoms are true of a goal and false in a state
 abbrev pub missing : State → State → ℕ
 missing goal state = count_by (λ place. place.0 && not place.1) (zip goal state)
+
+-- whether an atom is one of those that are true in a state
+abbrev pub is_true : ℕ → List ℕ → State → Fact → Bool
+is_true objects arities state atom = list_any (is_same atom) (true_atoms objects arities state)
+
+-- a state with the atoms of a set added
+abbrev pub with_atoms : State → State → State
+with_atoms state atoms = map (λ place. place.0 || place.1) (zip state atoms)
+
+-- a state without the atoms of a set
+abbrev pub without_atoms : State → State → State
+without_atoms state atoms = map (λ place. place.0 && not place.1) (zip state atoms)

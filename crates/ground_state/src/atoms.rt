@@ -1,4 +1,4 @@
-ghost use Rattle.std.specs.Prelude.{◌≡◌, ◌↔◌, IsTrue, IfOk};
+ghost use Rattle.std.specs.Prelude.{◌≡◌, ◌↔◌, IsTrue, IfOk, length};
 ghost use Rattle.ground_state.specs.State.{missing};
 ghost use Rattle.ground_state.specs.Ground.{IsAtom, IsStateOf, Holds};
 
@@ -12,7 +12,7 @@ use std::marker::Model;
 /// each ground atom whether it is true.
 #[derive(Debug, Drop)]
 pub struct Atoms {
-    bits: Bits,
+    pub(crate) bits: Bits,
 }
 
 impl Model for Atoms {
@@ -34,6 +34,15 @@ impl Atoms {
         })
     }
 
+    /// Makes exactly the atoms of the start true again.
+    pub fn reset(&mut self, table: &AtomTable)
+        requires { IsStateOf table.now self.old }
+        ensures initial { self.new ≡ table.now.initial }
+        ensures fits { IsStateOf table.now self.new }
+    {
+        self.bits.copy_from(&table.initial);
+    }
+
     /// Whether a ground atom is true. `pred` is the number of a predicate, `args` are the numbers of its objects.
     pub fn holds(&self, table: &AtomTable, pred: u32, args: &[u16]) -> bool
         requires state { IsStateOf table.now self.now }
@@ -49,5 +58,20 @@ impl Atoms {
         ensures { result ≡ missing table.now.goal self.now }
     {
         table.goal.missing_in(&self.bits)
+    }
+
+    /// Makes another set of the same table equal to this one.
+    pub fn copy_into(&self, to: &mut Atoms)
+        requires { length to.old ≡ length self.now }
+        ensures { to.new ≡ self.now }
+    {
+        to.bits.copy_from(&self.bits);
+    }
+
+    /// Whether the two sets have the same atoms.
+    pub fn equals(&self, other: &Atoms) -> bool
+        ensures { IsTrue result ↔ (self.now ≡ other.now) }
+    {
+        self.bits.equals(&other.bits)
     }
 }

@@ -1,4 +1,4 @@
-ghost use Rattle.std.specs.Prelude.{◌≡◌, ◌<◌, false, true, Some, length, replicate, slice_get, slice_set, IfOk};
+ghost use Rattle.std.specs.Prelude.{◌≡◌, ◌↔◌, ◌<◌, IsTrue, false, true, Some, length, replicate, slice_get, slice_set, IfOk};
 ghost use Rattle.ground_state.specs.State.{missing};
 
 use flag_rules::OutOfMemory;
@@ -54,6 +54,29 @@ impl Bits {
         ensures { self.new ≡ slice_set self.old place true }
     {
         self.values[place as usize] = true;
+    }
+
+    /// Makes the value at a place false.
+    pub(crate) fn set_false(&mut self, place: u32)
+        requires { place < length self.old }
+        ensures { self.new ≡ slice_set self.old place false }
+    {
+        self.values[place as usize] = false;
+    }
+
+    /// Takes over the values of another row of the same length.
+    pub(crate) fn copy_from(&mut self, other: &Bits)
+        requires { length self.old ≡ length other.now }
+        ensures { self.new ≡ other.now }
+    {
+        self.values.copy_from_slice(other.values.as_slice());
+    }
+
+    /// Whether the two rows have the same values.
+    pub(crate) fn equals(&self, other: &Bits) -> bool
+        ensures { IsTrue result ↔ (self.now ≡ other.now) }
+    {
+        self.values.as_slice() == other.values.as_slice()
     }
 
     /// At how many places the value is true here and false there.

@@ -1,6 +1,7 @@
 //! Planning tasks and instances of them by numbers, and states as sets of ground atoms.
 #![tactic(auto)]
 
+mod action;
 mod atoms;
 mod bits;
 mod laws;
@@ -10,6 +11,7 @@ mod refusal;
 mod table;
 mod task;
 
+pub use action::apply;
 pub use atoms::Atoms;
 pub use laws::{goal_is_met_exactly_where_listed, unmet_goal_has_a_fact_not_listed};
 pub use parts::{

@@ -1,12 +1,14 @@
 ghost use Rattle.std.specs.Prelude.{◌≡◌, ◌^◌, ◌<◌, ◌≤◌, All, Some, length, map, slice_get, IfOk};
+ghost use Rattle.std.specs.List.{list_all};
 ghost use Rattle.ground_state.specs.declared.parts.TheConstants.{MAX_ATOMS};
 ghost use Rattle.ground_state.specs.declared.parts.PredicateEntry.{PredicateEntry};
 ghost use Rattle.ground_state.specs.Instance.{IsFact};
 ghost use Rattle.ground_state.specs.GroundAtoms.{atom_count, ground_atoms, tuples};
-ghost use Rattle.ground_state.specs.State.{those_of};
+ghost use Rattle.ground_state.specs.State.{those_of, is_true, with_atoms, without_atoms};
+ghost use Rattle.ground_state.specs.Action.{object_of, grounded, IsBound, IsLiftedAt};
 
 use crate::bits::Bits;
-use crate::{Fact, PredicateEntry};
+use crate::{Fact, Lifted, PredicateEntry, Term};
 use flag_rules::OutOfMemory;
 use std::alloc::Global;
 use std::marker::Model;
@@ -100,6 +102,59 @@ impl Numbering {
         }
         Ok(bits)
     }
+
+    /// The number of a schema's atom at the objects of its parameters.
+    fn place_at(&self, atom: &Lifted, args: &[u16]) -> u32
+        requires { IsLiftedAt self.now.0 self.now.1 args.now atom.now }
+        ensures { slice_get (ground_atoms self.now.0 self.now.1) result
+            ≡ Some (grounded args.now atom.now) }
+    {
+        let place = place_in_tuples_at(u32::from(self.objects), atom.args.as_slice(), args);
+        self.firsts[atom.pred as usize] + place
+    }
+
+    /// Whether a schema's atom at the objects of its parameters is true.
+    fn is_true_at(&self, state: &Bits, atom: &Lifted, args: &[u16]) -> bool
+        requires state { length state.now ≡ atom_count self.now.0 self.now.1 }
+        requires atom { IsLiftedAt self.now.0 self.now.1 args.now atom.now }
+        ensures { result ≡ is_true self.now.0 self.now.1 state.now (grounded args.now atom.now) }
+    {
+        state.get(self.place_at(atom, args))
+    }
+
+    /// Whether some atoms of a schema at the objects of its parameters are all true.
+    pub(crate) fn are_true_at(&self, state: &Bits, atoms: &[Lifted], args: &[u16]) -> bool
+        requires state { length state.now ≡ atom_count self.now.0 self.now.1 }
+        requires atoms { All (IsLiftedAt self.now.0 self.now.1 args.now) atoms.now }
+        ensures { result ≡ list_all
+            (λ atom. is_true self.now.0 self.now.1 state.now (grounded args.now atom)) atoms.now }
+    {
+        atoms.iter().all(|atom| self.is_true_at(state, atom, args))
+    }
+
+    /// Makes some atoms of a schema at the objects of its parameters false.
+    pub(crate) fn delete_at(&self, state: &mut Bits, atoms: &[Lifted], args: &[u16])
+        requires state { length state.old ≡ atom_count self.now.0 self.now.1 }
+        requires atoms { All (IsLiftedAt self.now.0 self.now.1 args.now) atoms.now }
+        ensures { state.new ≡ without_atoms state.old
+            (those_of self.now.0 self.now.1 (map (grounded args.now) atoms.now)) }
+    {
+        for atom in atoms {
+            state.set_false(self.place_at(atom, args));
+        }
+    }
+
+    /// Makes some atoms of a schema at the objects of its parameters true.
+    pub(crate) fn add_at(&self, state: &mut Bits, atoms: &[Lifted], args: &[u16])
+        requires state { length state.old ≡ atom_count self.now.0 self.now.1 }
+        requires atoms { All (IsLiftedAt self.now.0 self.now.1 args.now) atoms.now }
+        ensures { state.new ≡ with_atoms state.old
+            (those_of self.now.0 self.now.1 (map (grounded args.now) atoms.now)) }
+    {
+        for atom in atoms {
+            state.set_true(self.place_at(atom, args));
+        }
+    }
 }
 
 /// The place of some objects in the list of all tuples of so many: they are read as the digits of a number.
@@ -111,6 +166,21 @@ fn place_in_tuples(objects: u32, args: &[u16]) -> u32
     let mut place = 0;
     for object in args {
         place = place * objects + u32::from(*object);
+    }
+    place
+}
+
+/// The same place for the objects that some arguments of a schema's atom stand for.
+fn place_in_tuples_at(objects: u32, terms: &[Term], args: &[u16]) -> u32
+    requires few { objects ^ length terms.now ≤ MAX_ATOMS }
+    requires bound { All (IsBound (length args.now)) terms.now }
+    requires in_range { All (λ object. object < objects) (map (object_of args.now) terms.now) }
+    ensures { slice_get (tuples objects (length terms.now)) result
+        ≡ Some (map (object_of args.now) terms.now) }
+{
+    let mut place = 0;
+    for term in terms {
+        place = place * objects + u32::from(term.object(args));
     }
     place
 }

@@ -1,3 +1,6 @@
+ghost use Rattle.std.specs.Prelude.{◌≡◌, length};
+ghost use Rattle.ground_state.specs.Action.{IsBound, object_of};
+
 use flag_rules::{List, Text};
 
 /// How many objects an instance has at most, and so how many constants a task has at most.
@@ -38,6 +41,19 @@ pub struct PredicateEntry {
 pub enum Term {
     Param(u8),
     Object(u16),
+}
+
+impl Term {
+    /// The object that it stands for, where these are the objects of the parameters.
+    pub(crate) fn object(self, args: &[u16]) -> u16
+        requires { IsBound (length args.now) self }
+        ensures { result ≡ object_of args.now self }
+    {
+        match self {
+            Term::Param(place) => args[usize::from(place)],
+            Term::Object(number) => number,
+        }
+    }
 }
 
 /// An atom of an action schema: the number of a predicate, and its arguments.

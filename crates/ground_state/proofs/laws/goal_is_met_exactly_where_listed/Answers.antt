@@ -1,4 +1,4 @@
-use Rattle.std.proofs.Common.{◌≡◌, length, inl, inr}
+use Rattle.std.proofs.Common.{length, inl, inr}
 use Rattle.ground_state.specs.Task.{arities_of}
 use Rattle.ground_state.specs.GroundAtoms.{ground_atoms}
 use Rattle.ground_state.proofs.States.{is_among, Contains-from_test, test_from_Contains}

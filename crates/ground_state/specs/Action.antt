@@ -1,0 +1,70 @@
+-- Acting: the atoms of an action schema at given objects, where an action is applicable, and the state that it leads to.
+use Rattle.std.specs.Prelude.{ℕ, ◌≡◌, ◌<◌, Bool, if◌then◌else◌, List, [], map, length, slice_index, slice_index_or, All, ⊤}
+use Rattle.std.specs.List.{list_all}
+use Rattle.ground_state.specs.declared.parts.TaskParts.{TaskParts}
+use Rattle.ground_state.specs.declared.parts.InstanceParts.{InstanceParts}
+use Rattle.ground_state.specs.declared.parts.SchemaEntry.{SchemaEntry}
+use Rattle.ground_state.specs.declared.parts.Lifted.{Lifted}
+use Rattle.ground_state.specs.declared.parts.Term.{Term}
+use Rattle.ground_state.specs.declared.parts.Term.TheVariants.{Param, Object}
+use Rattle.ground_state.specs.declared.parts.Fact.{Fact}
+use Rattle.ground_state.specs.Instance.{IsInstance, IsFact}
+use Rattle.ground_state.specs.State.{State, those_of, is_true, with_atoms, without_atoms}
+use Rattle.ground_state.specs.Ground.{Ground, ground_of, Holds}
+
+-- the object that an argument of a schema's atom stands for, where these are the objects of the parameters
+abbrev pub object_of : List ℕ → Term → ℕ
+object_of args (Param place) = slice_index args place
+object_of args (Object number) = number
+
+-- a schema's atom at these objects
+abbrev pub grounded : List ℕ → Lifted → Fact
+grounded args atom = record { pred = atom.pred; args = map (object_of args) atom.args }
+
+-- the parameter of the argument, if it is one, is among so many
+abbrev pub IsBound : ℕ → Term → Type 0
+IsBound count (Param place) = place < count
+IsBound count (Object number) = ⊤
+
+-- a schema's atom that is a ground atom at these objects
+pub record IsLiftedAt (objects : ℕ) (arities : List ℕ) (args : List ℕ) (atom : Lifted) : Type 0 where
+  pub bound : All (IsBound (length args)) atom.args
+  pub fact : IsFact objects arities (grounded args atom)
+
+-- the set of a schema's atoms at these objects
+abbrev pub those_at : Ground → List ℕ → List Lifted → State
+those_at table args atoms = those_of (length table.object_types) table.arities (map (grounded args) atoms)
+
+-- the schema of a number
+abbrev pub schema_of : TaskParts → ℕ → SchemaEntry
+schema_of task number = slice_index_or task.schemas number (record { name = []; params = []; pre = []; add = []; del = [] })
+
+-- the table is what an instance of the task comes to
+pub record IsTableOf (task : TaskParts) (table : Ground) : Type 0 where
+  pub instance : InstanceParts
+  pub fits : IsInstance task instance
+  pub made : table ≡ ground_of task instance
+
+-- the number of a schema of the task, and an object of the table for each of its parameters
+pub record IsAction (task : TaskParts) (table : Ground) (schema : ℕ) (args : List ℕ) : Type 0 where
+  pub known : schema < length task.schemas
+  pub count : length args ≡ length (schema_of task schema).params
+  pub objects : All (λ object. object < length table.object_types) args
+
+-- every precondition atom at the objects is true in the state
+pub record Applicable (task : TaskParts) (table : Ground) (schema : ℕ) (args : List ℕ) (state : State) : Type 0 where
+  pub pre : All (λ atom. Holds table state (grounded args atom)) (schema_of task schema).pre
+
+-- whether it is so
+abbrev pub is_applicable : TaskParts → Ground → ℕ → List ℕ → State → Bool
+is_applicable task table schema args state =
+    list_all (λ atom. is_true (length table.object_types) table.arities state (grounded args atom)) (schema_of task schema).pre
+
+-- the state without the deleted atoms, then with the added atoms
+abbrev pub result_of : TaskParts → Ground → ℕ → List ℕ → State → State
+result_of task table schema args state =
+    with_atoms (without_atoms state (those_at table args (schema_of task schema).del)) (those_at table args (schema_of task schema).add)
+
+-- the state that acting leads to: what is not applicable changes nothing
+abbrev pub acted : TaskParts → Ground → ℕ → List ℕ → State → State
+acted task table schema args state = (if is_applicable task table schema args state then result_of task table schema args state else state)

@@ -1,0 +1,6 @@
+pub mod Places
+pub mod Alphabets
+pub mod Runs
+pub mod Programs
+pub mod Standings
+pub mod Verdicts

@@ -1,0 +1,7 @@
+pub mod Alphabet
+pub mod Program
+pub mod Semantics
+pub mod Run
+pub mod Standing
+pub mod Verdict
+pub mod Counts

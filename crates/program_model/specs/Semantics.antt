@@ -1,0 +1,18 @@
+-- What a machine means: the values of its configurations, and what it does to them.
+use Rattle.std.specs.Prelude.{ℕ}
+use Rattle.flag_rules.specs.declared.flags.Sign.{Sign}
+
+-- a machine's meaning, by numbers of instances and operations
+pub record Semantics (C : Type 0) : Type 0 where
+  -- how many instances, operations and pointers there are
+  pub instances : ℕ
+  pub ops : ℕ
+  pub pointers : ℕ
+  -- the value at the start of an instance
+  pub start : ℕ → C
+  -- the value after an operation on an instance: `act t op value`
+  pub act : ℕ → ℕ → C → C
+  -- the sign of the last result
+  pub sign : C → Sign
+  -- how many goal atoms of an instance are missing; its goal is met where none is, and nowhere else
+  pub missing : ℕ → C → ℕ

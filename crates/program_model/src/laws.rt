@@ -1,0 +1,20 @@
+ghost use Rattle.std.specs.Prelude.{◌≡◌, ℕ, Some};
+ghost use Rattle.program_model.specs.Semantics.{Semantics};
+ghost use Rattle.program_model.specs.Program.{Program, Extends, Completes};
+ghost use Rattle.program_model.specs.Run.{Config, at, Unmet, Loops, Solves};
+
+/// A law over all machines: a run of a partial program is, as far as it goes, the run of each program that extends it, so
+/// of each that completes it.
+pub fn completions_run_alike<C>()
+    ensures { (m : Semantics C) (part program : Program) (t j : ℕ) (config : Config C) →
+        Extends program part → at m part t j ≡ Some config → at m program t j ≡ Some config }
+{}
+
+/// A law over all machines: where a run of a partial program ends with the goal unmet, or comes to one configuration
+/// twice, no program that completes the partial program solves that instance.
+pub fn refuted_completions_fail<C>()
+    ensures unmet { (m : Semantics C) (part program : Program) (t j : ℕ) →
+        Unmet m part t j → Completes m.ops program part → Solves m program t → ⊥ }
+    ensures loops { (m : Semantics C) (part program : Program) (t i j : ℕ) →
+        Loops m part t i j → Completes m.ops program part → Solves m program t → ⊥ }
+{}
