@@ -9,3 +9,4 @@ pub mod Answers
 pub mod Headline
 pub mod Grounding
 pub mod Domains
+pub mod Exit

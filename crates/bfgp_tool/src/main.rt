@@ -32,11 +32,10 @@ fn main(rt: HostRuntime) -> ExitCode {
         Ok(words) => {
             let mut shelf = RealShelf::new(&rt);
             let mut sink = RealSink::new(&rt);
-            let status = bfgp(rt.alloc(), &words, &mut shelf, &mut sink);
-            ExitCode::from(status as u8)
+            bfgp(rt.alloc(), &words, &mut shelf, &mut sink).exit_code()
         }
         Err(error) if error.kind() == io::ErrorKind::OutOfMemory => {
-            ExitCode::from(Status::OutOfMemory as u8)
+            Status::OutOfMemory.exit_code()
         }
         Err(_) => ExitCode::from(NO_WORDS),
     }

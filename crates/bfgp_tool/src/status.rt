@@ -1,3 +1,9 @@
+ghost use Rattle.std.specs.Prelude.{◌≡◌};
+ghost use Rattle.std.specs.Process.{exit_status};
+ghost use Rattle.bfgp_tool.specs.Exit.{exit_number};
+
+use std::process::ExitCode;
+
 /// How a run of the planner ended. The number of a status is the process's exit status.
 #[derive(Clone, Copy, Debug, PartialEq, Eq)]
 pub enum Status {
@@ -19,4 +25,13 @@ pub enum Status {
     WriteFault = 7,
     /// Memory could not be had; nothing was written.
     OutOfMemory = 8,
+}
+
+impl Status {
+    /// What the process ends with.
+    pub fn exit_code(self) -> ExitCode
+        ensures { exit_status result ≡ exit_number self }
+    {
+        ExitCode::from(self as u8)
+    }
 }
