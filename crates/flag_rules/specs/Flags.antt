@@ -1,5 +1,5 @@
 -- Signs of results, and the conditions of jumps on them.
-use Rattle.std.specs.Prelude.{ℕ, ℤ, pos, negsuc, zero, suc, Bool, true, false}
+use Rattle.std.specs.Prelude.{ℤ, pos, negsuc, zero, suc, Bool, true, false}
 use Rattle.flag_rules.specs.declared.flags.Sign.{Sign}
 use Rattle.flag_rules.specs.declared.flags.Sign.TheVariants as signs
 use Rattle.flag_rules.specs.declared.flags.Cond.{Cond}

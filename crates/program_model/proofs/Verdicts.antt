@@ -1,47 +1,42 @@
 -- The verdict on runs, one run after another.
-use Rattle.std.proofs.Common.{◌≡◌, ℕ, ◌+◌, List, ◌∷◌, Option, Some, None, refl, max}
-use Rattle.std.specs.Prelude.{unwrap_or, option_map}
+use Rattle.std.proofs.Common.{◌≡◌, ℕ, List, ◌∷◌, Option, Some, None, refl, max}
 use Rattle.program_model.specs.Standing.{Standing, ended, unmet, waits, loops, at_limit}
-use Rattle.program_model.specs.Verdict.{Stood, Verdict, refused, limited, waiting, solved, refutes, is_limited, least_from, waiting_line, halted, greater, verdict_from}
+use Rattle.program_model.specs.Verdict.{Stood, Verdict, refused, limited, waiting, solved, is_refuting, is_limited, first_where, waiting_line, greater, judge, verdict}
 
 -- the verdict of one run and of the runs after it, together
-abbrev pub joined : ℕ → Stood → Standing → Verdict → Verdict
-joined t x ended later = later
-joined t x unmet later = refused t x
-joined t x (loops i j) later = refused t x
-joined t x (waits line) (refused u y) = refused u y
-joined t x (waits line) (limited u) = limited u
-joined t x (waits line) (waiting other) = waiting (max line other)
-joined t x (waits line) solved = waiting line
-joined t x at_limit (refused u y) = refused u y
-joined t x at_limit (limited u) = limited t
-joined t x at_limit (waiting other) = limited t
-joined t x at_limit solved = limited t
+abbrev pub joined : Stood → Standing → Verdict → Verdict
+joined x ended later = later
+joined x unmet later = refused x
+joined x (loops i j) later = refused x
+joined x (waits line) (refused y) = refused y
+joined x (waits line) (limited t) = limited t
+joined x (waits line) (waiting other) = waiting (max line other)
+joined x (waits line) solved = waiting line
+joined x at_limit (refused y) = refused y
+joined x at_limit (limited t) = limited x.instance
+joined x at_limit (waiting other) = limited x.instance
+joined x at_limit solved = limited x.instance
 
-joined_limit : (t : ℕ) (x : Stood) (refuted limits : Option (ℕ × Stood)) (waiting_at : Option ℕ) →
-    unwrap_or (option_map (λ (found : ℕ × Stood). refused found.0 found.1) refuted) (limited t)
-    ≡ joined t x at_limit (unwrap_or (option_map (λ (found : ℕ × Stood). refused found.0 found.1) refuted) (unwrap_or (option_map (λ (found : ℕ × Stood). limited found.0) limits) (halted waiting_at)))
-joined_limit t x (Some found) limits waiting_at = refl
-joined_limit t x None (Some found) waiting_at = refl
-joined_limit t x None None (Some line) = refl
-joined_limit t x None None None = refl
+joined_limit : (x : Stood) (refuting limit : Option Stood) (line : Option ℕ) → judge refuting (Some x) line ≡ joined x at_limit (judge refuting limit line)
+joined_limit x (Some y) limit line = refl
+joined_limit x None (Some y) line = refl
+joined_limit x None None (Some line) = refl
+joined_limit x None None None = refl
 
-joined_waits : (t line : ℕ) (x : Stood) (refuted limits : Option (ℕ × Stood)) (waiting_at : Option ℕ) →
-    unwrap_or (option_map (λ (found : ℕ × Stood). refused found.0 found.1) refuted) (unwrap_or (option_map (λ (found : ℕ × Stood). limited found.0) limits) (waiting (greater line waiting_at)))
-    ≡ joined t x (waits line) (unwrap_or (option_map (λ (found : ℕ × Stood). refused found.0 found.1) refuted) (unwrap_or (option_map (λ (found : ℕ × Stood). limited found.0) limits) (halted waiting_at)))
-joined_waits t line x (Some found) limits waiting_at = refl
-joined_waits t line x None (Some found) waiting_at = refl
-joined_waits t line x None None (Some other) = refl
-joined_waits t line x None None None = refl
+joined_waits : (x : Stood) (line : ℕ) (refuting limit : Option Stood) (other : Option ℕ) → judge refuting limit (Some (greater line other)) ≡ joined x (waits line) (judge refuting limit other)
+joined_waits x line (Some y) limit other = refl
+joined_waits x line None (Some y) other = refl
+joined_waits x line None None (Some other) = refl
+joined_waits x line None None None = refl
 
-verdict_by : (t steps missing : ℕ) (standing : Standing) (xs : List Stood) →
-    let x : Stood = record { steps = steps; missing = missing; standing = standing } in
-    verdict_from t (x ∷ xs) ≡ joined t x standing (verdict_from (t + 1) xs)
-verdict_by t steps missing ended xs = refl
-verdict_by t steps missing unmet xs = refl
-verdict_by t steps missing (loops i j) xs = refl
-verdict_by t steps missing (waits line) xs = joined_waits t line (record { steps = steps; missing = missing; standing = waits line }) (least_from refutes (t + 1) xs) (least_from is_limited (t + 1) xs) (waiting_line xs)
-verdict_by t steps missing at_limit xs = joined_limit t (record { steps = steps; missing = missing; standing = at_limit }) (least_from refutes (t + 1) xs) (least_from is_limited (t + 1) xs) (waiting_line xs)
+verdict_by : (instance steps missing : ℕ) (standing : Standing) (xs : List Stood) →
+    let x : Stood = record { instance = instance; steps = steps; missing = missing; standing = standing } in
+    verdict (x ∷ xs) ≡ joined x standing (verdict xs)
+verdict_by instance steps missing ended xs = refl
+verdict_by instance steps missing unmet xs = refl
+verdict_by instance steps missing (loops i j) xs = refl
+verdict_by instance steps missing (waits line) xs = joined_waits (record { instance = instance; steps = steps; missing = missing; standing = waits line }) line (first_where is_refuting xs) (first_where is_limited xs) (waiting_line xs)
+verdict_by instance steps missing at_limit xs = joined_limit (record { instance = instance; steps = steps; missing = missing; standing = at_limit }) (first_where is_refuting xs) (first_where is_limited xs) (waiting_line xs)
 
-pub verdict_from-cons : (t : ℕ) (x : Stood) (xs : List Stood) → verdict_from t (x ∷ xs) ≡ joined t x x.standing (verdict_from (t + 1) xs)
-verdict_from-cons t x xs = verdict_by t x.steps x.missing x.standing xs
+pub verdict-cons : (x : Stood) (xs : List Stood) → verdict (x ∷ xs) ≡ joined x x.standing (verdict xs)
+verdict-cons x xs = verdict_by x.instance x.steps x.missing x.standing xs

@@ -22,6 +22,6 @@ jumps_to target = map (λ cond. Goto target cond) conditions
 abbrev pub inner_alphabet : ℕ → ℕ → ℕ → List Instr
 inner_alphabet ops lines line = map Op (range_with_len 0 ops) ++ flat_map jumps_to (targets lines line)
 
--- the alphabet of a line of so many: `end` alone on the last line
+-- the alphabet of a line below so many: `end` alone on the last line
 abbrev pub alphabet : ℕ → ℕ → ℕ → List Instr
 alphabet ops lines line = if line + 1 == lines then End ∷ [] else inner_alphabet ops lines line

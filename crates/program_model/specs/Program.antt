@@ -12,7 +12,7 @@ Program = List (Option Instr)
 abbrev pub line_at : Program → ℕ → Option Instr
 line_at program line = option_and_then (λ instr. instr) (slice_get program line)
 
--- the program of so many lines that has `end` on the last line and nothing on the others
+-- the program of so many lines, at least one, that has `end` on the last line and nothing on the others
 abbrev pub empty : ℕ → Program
 empty lines = replicate (lines - 1) None ++ Some End ∷ []
 

@@ -1,4 +1,5 @@
--- Runs of programs and partial programs on the instances of a machine, and what they show.
+-- Runs of programs and partial programs on the instances of a machine, and what they show. All of it is said of partial
+-- programs, in which `end` stands on the last line and nowhere else.
 use Rattle.std.specs.Prelude.{◌≡◌, ℕ, zero, suc, ◌+◌, ◌<◌, length, Option, Some, None, option_and_then, if◌then◌else◌}
 use Rattle.flag_rules.specs.Flags.{holds_at}
 use Rattle.program_model.specs.declared.instr.Instr.{Instr}

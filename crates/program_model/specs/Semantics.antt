@@ -12,7 +12,7 @@ pub record Semantics (C : Type 0) : Type 0 where
   pub start : ℕ → C
   -- the value after an operation on an instance: `act t op value`
   pub act : ℕ → ℕ → C → C
-  -- the sign of the last result
+  -- the sign of the last result, or the one at the start
   pub sign : C → Sign
   -- how many goal atoms of an instance are missing; its goal is met where none is, and nowhere else
   pub missing : ℕ → C → ℕ

@@ -1,7 +1,8 @@
 ghost use Rattle.std.specs.Prelude.{◌≡◌, ℕ, Some};
 ghost use Rattle.program_model.specs.Semantics.{Semantics};
-ghost use Rattle.program_model.specs.Program.{Program, Extends, Completes};
+ghost use Rattle.program_model.specs.Program.{Program, IsPartial, Extends, Completes};
 ghost use Rattle.program_model.specs.Run.{Config, at, Unmet, Loops, Solves};
+ghost use Rattle.program_model.specs.Standing.{Standing, IsNoticed, IsStanding};
 
 /// A law over all machines: a run of a partial program is, as far as it goes, the run of each program that extends it, so
 /// of each that completes it.
@@ -17,4 +18,13 @@ pub fn refuted_completions_fail<C>()
         Unmet m part t j → Completes m.ops program part → Solves m program t → ⊥ }
     ensures loops { (m : Semantics C) (part program : Program) (t i j : ℕ) →
         Loops m part t i j → Completes m.ops program part → Solves m program t → ⊥ }
+{}
+
+/// A law over all machines: a run of a partial program has one standing under a limit, at one step, and one repetition that
+/// is noticed.
+pub fn runs_stand_once<C>()
+    ensures standing { (m : Semantics C) (ops : ℕ) (part : Program) (t limit s r : ℕ) (x y : Standing) →
+        IsPartial ops part → IsStanding m part t limit s x → IsStanding m part t limit r y → (s ≡ r) × (x ≡ y) }
+    ensures noticed { (m : Semantics C) (ops : ℕ) (part : Program) (t i j a b : ℕ) →
+        IsPartial ops part → IsNoticed m part t i j → IsNoticed m part t a b → (i ≡ a) × (j ≡ b) }
 {}

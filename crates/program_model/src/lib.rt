@@ -10,7 +10,7 @@ mod partial;
 
 pub use alphabet::{MAX_LINES, MAX_OPS, alphabet_len, instr_at, rank_of};
 pub use instr::Instr;
-pub use laws::{completions_run_alike, refuted_completions_fail};
+pub use laws::{completions_run_alike, refuted_completions_fail, runs_stand_once};
 pub use machine::{MAX_INSTANCES, MAX_POINTERS, Machine};
 pub use partial::Partial;
 
