@@ -1,11 +1,11 @@
--- When a goal is met at the start.
-use Rattle.std.proofs.Common.{◌≡◌, ℕ, zero, suc, ◌+◌, ◌<◌, ◌⊎◌, Bool, true, false, cond, not, ◌&&◌, List, [], ◌∷◌, length, refl, ◌∙◌, inl, inr, ap, sym, arith, map, zip, Some, All}
+-- Where each ground atom stands, and which atoms of a goal are missing in a state.
+use Rattle.std.proofs.Common.{◌≡◌, ℕ, zero, suc, ◌+◌, ◌<◌, ◌⊎◌, Bool, true, false, cond, not, ◌&&◌, List, [], ◌∷◌, length, refl, ◌∙◌, inl, inr, ap, arith, map, zip, Some, All}
 use Rattle.std.specs.List.{slice_get}
 use Rattle.std.proofs.lemmas.List.Sums.{sum_by-cons}
 use Rattle.std.proofs.lemmas.List.Elements.{All-head, All-tail}
 use Rattle.ground_state.specs.declared.parts.Fact.{Fact}
 use Rattle.ground_state.specs.Instance.{IsFact}
-use Rattle.ground_state.specs.State.{missing}
+use Rattle.ground_state.specs.State.{State, missing}
 use Rattle.ground_state.specs.GroundAtoms.{tuples, ground_atoms}
 use Rattle.ground_state.proofs.Places.{tuple_place, ground_atom_place}
 
@@ -26,8 +26,8 @@ atom_somewhere objects arities fact valid =
 abbrev pub is_missing : Bool × Bool → Bool
 is_missing place = place.0 && not place.1
 
-missing-cons : (f g : Fact → Bool) (atom : Fact) (atoms : List Fact) → missing (f atom ∷ map f atoms) (g atom ∷ map g atoms) ≡ cond (f atom && not (g atom)) 1 0 + missing (map f atoms) (map g atoms)
-missing-cons f g atom atoms = sum_by-cons (λ (place : Bool × Bool). cond (is_missing place) 1 0) (f atom, g atom) (zip (map f atoms) (map g atoms))
+missing-cons : (wanted held : Bool) (goal state : State) → missing (wanted ∷ goal) (held ∷ state) ≡ cond (wanted && not held) 1 0 + missing goal state
+missing-cons wanted held goal state = sum_by-cons (λ (place : Bool × Bool). cond (is_missing place) 1 0) (wanted, held) (zip goal state)
 
 -- a place where nothing is missing
 one_held : (a b : Bool) (n m : ℕ) → n ≡ cond (a && not b) 1 0 + m → n ≡ 0 → a ≡ true → b ≡ true
@@ -43,30 +43,33 @@ one_more true true n m step none = inl (omega arith)
 one_more true false n m step none = inr (refl, refl)
 one_more false b n m step none = inl (omega arith)
 
--- where nothing is missing, what the goal has is true
-pub none_missing : (f g : Fact → Bool) (atoms : List Fact) → missing (map f atoms) (map g atoms) ≡ 0 → (n : ℕ) (atom : Fact) → slice_get atoms n ≡ Some atom → f atom ≡ true → g atom ≡ true
-none_missing f g [] none n atom here wanted = absurd (cc)
-none_missing f g (head ∷ atoms) none zero atom here wanted =
+-- where nothing is missing, what the goal has is true in the state
+pub none_missing : (f : Fact → Bool) (atoms : List Fact) (state : State) → length state ≡ length atoms → missing (map f atoms) state ≡ 0 → (n : ℕ) (atom : Fact) → slice_get atoms n ≡ Some atom → f atom ≡ true → slice_get state n ≡ Some true
+none_missing f [] state long none n atom here wanted = absurd (cc)
+none_missing f (head ∷ atoms) [] long none n atom here wanted = absurd (cc)
+none_missing f (head ∷ atoms) (held ∷ state) long none zero atom here wanted =
     let same : head ≡ atom = cc in
-    let held = one_held (f head) (g head) _ _ (missing-cons f g head atoms) none (ap f same ∙ wanted) in
-    ap g (sym same) ∙ held
-none_missing f g (head ∷ atoms) none (suc n) atom here wanted =
-    none_missing f g atoms (rest_held (f head) (g head) _ _ (missing-cons f g head atoms) none) n atom here wanted
+    ap (λ x. Some x) (one_held (f head) held _ _ (missing-cons (f head) held (map f atoms) state) none (ap f same ∙ wanted))
+none_missing f (head ∷ atoms) (held ∷ state) long none (suc n) atom here wanted =
+    none_missing f atoms state (cc) (rest_held (f head) held _ _ (missing-cons (f head) held (map f atoms) state) none) n atom here wanted
 
--- an atom that the goal has and that is not true
-pub record IsWanting (f g : Fact → Bool) (atoms : List Fact) : Type 0 where
+-- an atom that the goal has and that is false in the state
+pub record IsWanting (f : Fact → Bool) (atoms : List Fact) (state : State) : Type 0 where
   pub atom : Fact
+  pub place : ℕ
+  pub here : slice_get atoms place ≡ Some atom
   pub wanted : f atom ≡ true
-  pub lacking : g atom ≡ false
+  pub lacking : slice_get state place ≡ Some false
 
 -- nothing is missing, or some atom is
-pub some_missing : (f g : Fact → Bool) (atoms : List Fact) → (missing (map f atoms) (map g atoms) ≡ 0) ⊎ IsWanting f g atoms
-some_missing f g [] = inl refl
-some_missing f g (head ∷ atoms) =
-    elim (some_missing f g atoms) [
-      | inr rest ↦ inr (record { atom = rest.atom; wanted = rest.wanted; lacking = rest.lacking })
-      | inl none ↦ elim (one_more (f head) (g head) _ _ (missing-cons f g head atoms) none) [
+pub some_missing : (f : Fact → Bool) (atoms : List Fact) (state : State) → length state ≡ length atoms → (missing (map f atoms) state ≡ 0) ⊎ IsWanting f atoms state
+some_missing f [] state long = inl refl
+some_missing f (head ∷ atoms) [] long = absurd (cc)
+some_missing f (head ∷ atoms) (held ∷ state) long =
+    elim (some_missing f atoms state (cc)) [
+      | inr rest ↦ inr (record { atom = rest.atom; place = suc rest.place; here = rest.here; wanted = rest.wanted; lacking = rest.lacking })
+      | inl none ↦ elim (one_more (f head) held _ _ (missing-cons (f head) held (map f atoms) state) none) [
         | inl still ↦ inl still
-        | inr found ↦ inr (record { atom = head; wanted = found.0; lacking = found.1 })
+        | inr found ↦ inr (record { atom = head; place = zero; here = refl; wanted = found.0; lacking = ap (λ x. Some x) found.1 })
       ]
     ]

@@ -51,7 +51,7 @@ pub record IsAction (task : TaskParts) (table : Ground) (schema : ℕ) (args : L
   pub count : length args ≡ length (schema_of task schema).params
   pub objects : All (λ object. object < length table.object_types) args
 
--- every precondition atom at the objects is true in the state
+-- every precondition atom at the objects is true in the state; types are not tested yet
 pub record Applicable (task : TaskParts) (table : Ground) (schema : ℕ) (args : List ℕ) (state : State) : Type 0 where
   pub pre : All (λ atom. Holds table state (grounded args atom)) (schema_of task schema).pre
 

@@ -3,8 +3,16 @@ ghost use Rattle.ground_state.specs.declared.parts.Fact.{Fact};
 ghost use Rattle.ground_state.specs.declared.parts.TaskParts.{TaskParts};
 ghost use Rattle.ground_state.specs.declared.parts.InstanceParts.{InstanceParts};
 ghost use Rattle.ground_state.specs.Instance.{IsInstance};
-ghost use Rattle.ground_state.specs.State.{missing};
-ghost use Rattle.ground_state.specs.Ground.{ground_of};
+ghost use Rattle.ground_state.specs.State.{State, missing};
+ghost use Rattle.ground_state.specs.Ground.{ground_of, Holds, IsStateOf};
+
+/// A law: no goal atom is missing in a state exactly where each fact that the goal lists is true in it.
+pub fn goal_is_met_exactly_where_its_facts_hold()
+    ensures { (task : TaskParts) (instance : InstanceParts) (state : State) → IsInstance task instance →
+        IsStateOf (ground_of task instance) state →
+        (missing (ground_of task instance).goal state ≡ 0)
+        ↔ ((fact : Fact) → Contains instance.goal fact → Holds (ground_of task instance) state fact) }
+{}
 
 /// A law: no goal atom is missing at the start exactly where each fact that the goal lists is listed as true at the
 /// start.

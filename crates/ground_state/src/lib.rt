@@ -13,7 +13,10 @@ mod task;
 
 pub use action::apply;
 pub use atoms::Atoms;
-pub use laws::{goal_is_met_exactly_where_listed, unmet_goal_has_a_fact_not_listed};
+pub use laws::{
+    goal_is_met_exactly_where_its_facts_hold, goal_is_met_exactly_where_listed,
+    unmet_goal_has_a_fact_not_listed,
+};
 pub use parts::{
     Fact, InstanceParts, Lifted, MAX_ARITY, MAX_ATOMS, MAX_OBJECTS, MAX_PARAMETERS, ObjectEntry,
     PredicateEntry, SchemaEntry, TaskParts, Term, TypeEntry,
