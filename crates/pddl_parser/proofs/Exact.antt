@@ -1,19 +1,19 @@
 -- The reading of each rule is what the grammar says.
-use Rattle.std.proofs.Common.{◌≡◌, ℕ, ◌<◌, Bool, true, false, cond, List, [], ◌∷◌, length, codes, bytes_eq, refl, ap, ◌∙◌, arith}
+use Rattle.std.proofs.Common.{◌≡◌, ℕ, ◌+◌, ◌<◌, Bool, true, false, cond, List, [], ◌∷◌, length, codes, refl, arith}
 use Rattle.std.proofs.lemmas.Slice.Eq.{bytes_eq-Decides}
 use Rattle.pddl_parser.specs.declared.lexer.Kind.{Kind}
-use Rattle.pddl_parser.specs.declared.lexer.Kind.TheVariants.{LeftParen, RightParen, Name, Variable, Keyword}
-use Rattle.pddl_parser.specs.declared.stop.Why.TheVariants.{Shape, Unsupported}
+use Rattle.pddl_parser.specs.declared.lexer.Kind.TheVariants.{RightParen, Name, Variable}
+use Rattle.pddl_parser.specs.declared.stop.Why.TheVariants.{Unsupported}
+use Rattle.pddl_parser.specs.declared.formulas.Terms.{Terms}
+use Rattle.pddl_parser.specs.declared.formulas.Terms.TheVariants.{Names, NamesAndVariables}
 use Rattle.pddl_parser.specs.declared.texts.Word.{Word}
 use Rattle.pddl_parser.specs.declared.texts.Typed.{Typed}
 use Rattle.pddl_parser.specs.declared.texts.AtomText.{AtomText}
 use Rattle.pddl_parser.specs.declared.texts.PredText.{PredText}
-use Rattle.pddl_parser.specs.declared.texts.DomainText.{DomainText}
-use Rattle.pddl_parser.specs.declared.texts.ProblemText.{ProblemText}
 use Rattle.pddl_parser.specs.Lexemes.{Lexeme, left, right, name, variable, keyword}
-use Rattle.pddl_parser.specs.Grammar.{is_reserved, word, IsNameWord, is_name_word, IsHead, is_head, IsObject, is_object, IsParameter, is_parameter, Many, IsGroundAtom, is_ground_atom, IsPredicate, is_predicate, IsOpening, is_opening, IsSection, is_section, Closed, closed, IsDomain, is_domain, IsProblem, is_problem}
-use Rattle.pddl_parser.specs.Reading.{Read, got, stuck, and_then, comes, passing, mark, literal, any_word, untyped, head, many, ground_atom, predicate, opening, section_key, section, closed_item, domain, problem}
-use Rattle.pddl_parser.proofs.Fronts.{and_then-cases, same_got}
+use Rattle.pddl_parser.specs.Grammar.{is_reserved, word, IsNameWord, is_name_word, IsHead, is_head, IsTerm, is_constant, is_argument, IsObject, is_object, IsParameter, is_parameter, Many, IsAtom, is_atom, IsPredicate, is_predicate, IsOpening, is_opening, IsSection, is_section, Closed, closed, IsPart, is_part, Listed, listed}
+use Rattle.pddl_parser.specs.Reading.{Read, got, stuck, and_then, comes, passing, any_word, untyped, head, many, in_list, term, atom_body, atom, predicate, opening, section_key, section, closed_item, part}
+use Rattle.pddl_parser.proofs.Fronts.{and_then-cases, same_got, mark-left, mark-right, literal-name, literal-keyword}
 use Rattle.pddl_parser.proofs.Items.{Parses, IsItem, Shrinks, item_shrinks, parses_many, Many-count}
 
 -- one word of each kind
@@ -64,6 +64,25 @@ head-sound (_ ∷ ts) rest w e = absurd cc
 head-complete : (ts rest : List Lexeme) (w : Word) → IsHead ts w rest → head ts ≡ got w rest
 head-complete ts rest w (is_head free) = rw free refl
 
+-- what an argument may be
+abbrev pub IsTermOf : Terms → List Lexeme → Word → List Lexeme → Type 0
+IsTermOf Names = IsNameWord
+IsTermOf NamesAndVariables = IsTerm
+
+term-sound : (ts rest : List Lexeme) (w : Word) → term NamesAndVariables ts ≡ got w rest → IsTerm ts w rest
+term-sound [] rest w e = absurd cc
+term-sound (name text at ∷ ts) rest w e = let same = same_got e in rw (← same.0, ← same.1) is_constant
+term-sound (variable text at ∷ ts) rest w e = let same = same_got e in rw (← same.0, ← same.1) is_argument
+term-sound (_ ∷ ts) rest w e = absurd cc
+
+term-complete : (ts rest : List Lexeme) (w : Word) → IsTerm ts w rest → term NamesAndVariables ts ≡ got w rest
+term-complete ts rest w is_constant = refl
+term-complete ts rest w is_argument = refl
+
+pub parses_term : (terms : Terms) → Parses (IsTermOf terms) (term terms)
+parses_term Names = parses_name_word
+parses_term NamesAndVariables = record { sound = term-sound; complete = term-complete }
+
 pub name_word_is_item : IsItem IsNameWord
 name_word_is_item = record { shorter = shorter; inside = inside }
   where
@@ -107,15 +126,31 @@ untyped_shrinks kind (t ∷ ts) rest w e = passing_shrinks _ _ w t ts rest e
 head-shorter : (ts rest : List Lexeme) (w : Word) → IsHead ts w rest → length rest < length ts
 head-shorter ts rest w (is_head free) = omega arith
 
-pub ground_atom_is_item : IsItem IsGroundAtom
-ground_atom_is_item = record { shorter = shorter; inside = inside }
+pub term_is_item : (terms : Terms) → IsItem (IsTermOf terms)
+term_is_item Names = name_word_is_item
+term_is_item NamesAndVariables = record { shorter = shorter; inside = inside }
   where
-    shorter : (ts rest : List Lexeme) (a : AtomText) → IsGroundAtom ts a rest → length rest < length ts
-    shorter ts rest a (is_ground_atom {ts = after} {mid = mid} {head = h} {args = args} d ds) =
-        omega (arith, head-shorter after mid h d, Many-count name_word_is_item mid rest args ds)
+    shorter : (ts rest : List Lexeme) (w : Word) → IsTerm ts w rest → length rest < length ts
+    shorter ts rest w is_constant = omega arith
+    shorter ts rest w is_argument = omega arith
 
-    inside : (ts rest : List Lexeme) (a : AtomText) → IsGroundAtom ts a rest → comes RightParen ts ≡ false
-    inside ts rest a (is_ground_atom d ds) = refl
+    inside : (ts rest : List Lexeme) (w : Word) → IsTerm ts w rest → comes RightParen ts ≡ false
+    inside ts rest w is_constant = refl
+    inside ts rest w is_argument = refl
+
+pub term_shrinks : (terms : Terms) → Shrinks (term terms)
+term_shrinks terms = item_shrinks (IsTermOf terms) (term terms) (term_is_item terms) (parses_term terms)
+
+-- an atom has a parenthesis, a head and a parenthesis
+pub atom-shorter : (terms : Terms) (ts rest : List Lexeme) (a : AtomText) → IsAtom (IsTermOf terms) ts a rest → length rest + 1 < length ts
+atom-shorter terms ts rest a (is_atom {ts = after} {mid = mid} {head = h} {args = args} d ds) =
+    omega (arith, head-shorter after mid h d, Many-count (term_is_item terms) mid rest args ds)
+
+pub atom_is_item : (terms : Terms) → IsItem (IsAtom (IsTermOf terms))
+atom_is_item terms = record { shorter = λ ts rest a d. omega (arith, atom-shorter terms ts rest a d); inside = inside }
+  where
+    inside : (ts rest : List Lexeme) (a : AtomText) → IsAtom (IsTermOf terms) ts a rest → comes RightParen ts ≡ false
+    inside ts rest a (is_atom d ds) = refl
 
 pub predicate_is_item : IsItem IsPredicate
 predicate_is_item = record { shorter = shorter; inside = inside }
@@ -127,65 +162,37 @@ predicate_is_item = record { shorter = shorter; inside = inside }
     inside : (ts rest : List Lexeme) (p : PredText) → IsPredicate ts p rest → comes RightParen ts ≡ false
     inside ts rest p (is_predicate d ds) = refl
 
--- a mark that was read
-mark-left : (ts rest : List Lexeme) (u : Unit {0}) → mark LeftParen ts ≡ got u rest → (p : ℕ) × (ts ≡ left p ∷ rest)
-mark-left [] rest u e = absurd cc
-mark-left (left p ∷ ts) rest u e = (p, ap (λ l. left p ∷ l) (same_got e).1)
-mark-left (_ ∷ ts) rest u e = absurd cc
-
-mark-right : (ts rest : List Lexeme) (u : Unit {0}) → mark RightParen ts ≡ got u rest → (p : ℕ) × (ts ≡ right p ∷ rest)
-mark-right [] rest u e = absurd cc
-mark-right (right p ∷ ts) rest u e = (p, ap (λ l. right p ∷ l) (same_got e).1)
-mark-right (_ ∷ ts) rest u e = absurd cc
-
--- a word that is the given one
-given : (word_at : List ℕ → List Lexeme → List Lexeme) (text w : List ℕ) (ts rest : List Lexeme) (u : Unit {0}) (equal_texts : Bool) → bytes_eq w text ≡ equal_texts
-    → cond equal_texts (got tt ts) (stuck Shape (word_at w ts)) ≡ got u rest → word_at w ts ≡ word_at text rest
-given word_at text w ts rest u true is e = rw ((bytes_eq-Decides w text).0 is, (same_got e).1) refl
-given word_at text w ts rest u false is e = absurd cc
-
--- a given word that was read
-literal-name : (text : List ℕ) (ts rest : List Lexeme) (u : Unit {0}) → literal Name text ts ≡ got u rest → (p : ℕ) × (ts ≡ name text p ∷ rest)
-literal-name text [] rest u e = absurd cc
-literal-name text (name w p ∷ ts) rest u e = (p, given (λ w ts. name w p ∷ ts) text w ts rest u (bytes_eq w text) refl e)
-literal-name text (_ ∷ ts) rest u e = absurd cc
-
-literal-keyword : (text : List ℕ) (ts rest : List Lexeme) (u : Unit {0}) → literal Keyword text ts ≡ got u rest → (p : ℕ) × (ts ≡ keyword text p ∷ rest)
-literal-keyword text [] rest u e = absurd cc
-literal-keyword text (keyword w p ∷ ts) rest u e = (p, given (λ w ts. keyword w p ∷ ts) text w ts rest u (bytes_eq w text) refl e)
-literal-keyword text (_ ∷ ts) rest u e = absurd cc
-
 -- what holds of equal lexemes, values and rests
-carried : {A : Type 0} (Rule : List Lexeme → A → List Lexeme → Type 0) {ts us rest left_over : List Lexeme} {x y : A} → ts ≡ us → x ≡ y → left_over ≡ rest → Rule us x left_over → Rule ts y rest
+pub carried : {A : Type 0} (Rule : List Lexeme → A → List Lexeme → Type 0) {ts us rest left_over : List Lexeme} {x y : A} → ts ≡ us → x ≡ y → left_over ≡ rest → Rule us x left_over → Rule ts y rest
 carried Rule p q r d = rw (p, ← q, ← r) d
 
-names : Parses (Many IsNameWord) (many (any_word Name))
-names = parses_many IsNameWord (any_word Name) name_word_is_item parses_name_word
+pub arguments : (terms : Terms) → Parses (Many (IsTermOf terms)) (many (term terms))
+arguments terms = parses_many (IsTermOf terms) (term terms) (term_is_item terms) (parses_term terms)
 
-parameters : Parses (Many IsParameter) (many (untyped Variable))
+pub parameters : Parses (Many IsParameter) (many (untyped Variable))
 parameters = parses_many IsParameter (untyped Variable) parameter_is_item parses_parameter
 
--- `( HEAD NAME* )`
-ground_atom-sound : (ts rest : List Lexeme) (a : AtomText) → ground_atom ts ≡ got a rest → IsGroundAtom ts a rest
-unfolding ground_atom
-ground_atom-sound ts rest a e =
+-- `( HEAD term* )`
+atom-sound : (terms : Terms) (ts rest : List Lexeme) (a : AtomText) → atom terms ts ≡ got a rest → IsAtom (IsTermOf terms) ts a rest
+unfolding atom_body
+atom-sound terms ts rest a e =
     let paren = and_then-cases _ _ _ _ e in
     let first = and_then-cases _ _ _ _ paren.3 in
     let others = and_then-cases _ _ _ _ first.3 in
     let same = same_got others.3 in
     let at = mark-left ts paren.1 paren.0 paren.2 in
-    carried IsGroundAtom at.1 same.0 same.1 (is_ground_atom (head-sound _ _ _ first.2) (names.sound _ _ _ others.2))
+    carried (IsAtom (IsTermOf terms)) at.1 same.0 same.1 (is_atom (head-sound _ _ _ first.2) ((arguments terms).sound _ _ _ others.2))
 
-ground_atom-complete : (ts rest : List Lexeme) (a : AtomText) → IsGroundAtom ts a rest → ground_atom ts ≡ got a rest
-unfolding ground_atom and_then
-ground_atom-complete ts rest a (is_ground_atom {ts = after} {mid = mid} {head = h} {args = args} d ds) =
-    rw (head-complete after mid h d, names.complete mid rest args ds) refl
+atom-complete : (terms : Terms) (ts rest : List Lexeme) (a : AtomText) → IsAtom (IsTermOf terms) ts a rest → atom terms ts ≡ got a rest
+unfolding atom_body and_then
+atom-complete terms ts rest a (is_atom {ts = after} {mid = mid} {head = h} {args = args} d ds) =
+    rw (head-complete after mid h d, (arguments terms).complete mid rest args ds) refl
 
-pub parses_ground_atom : Parses IsGroundAtom ground_atom
-parses_ground_atom = record { sound = ground_atom-sound; complete = ground_atom-complete }
+pub parses_atom : (terms : Terms) → Parses (IsAtom (IsTermOf terms)) (atom terms)
+parses_atom terms = record { sound = atom-sound terms; complete = atom-complete terms }
 
-pub ground_atom_shrinks : Shrinks ground_atom
-ground_atom_shrinks = item_shrinks IsGroundAtom ground_atom ground_atom_is_item parses_ground_atom
+pub atom_shrinks : (terms : Terms) → Shrinks (atom terms)
+atom_shrinks terms = item_shrinks (IsAtom (IsTermOf terms)) (atom terms) (atom_is_item terms) (parses_atom terms)
 
 -- `( HEAD VARIABLE* )`
 predicate-sound : (ts rest : List Lexeme) (p : PredText) → predicate ts ≡ got p rest → IsPredicate ts p rest
@@ -281,62 +288,38 @@ module _ {A : Type 0} (Item : List Lexeme → A → List Lexeme → Type 0) (ite
   pub parses_closed : Parses (Closed Item) (closed_item item)
   parses_closed = record { sound = closed-sound; complete = closed-complete }
 
--- whole texts
-predicates_section : Parses (IsSection (codes ":predicates") (Many IsPredicate)) (section (codes ":predicates") (many predicate))
-predicates_section = parses_section _ _ _ (parses_many IsPredicate predicate predicate_is_item parses_predicate)
+-- a keyword and a body
+module _ {A : Type 0} (key : List ℕ) (Body : List Lexeme → A → List Lexeme → Type 0) (body : List Lexeme → Read A) (parses : Parses Body body) where
+  part_at : (a b rest : List Lexeme) (value : A) (p : ℕ) → a ≡ keyword key p ∷ b → Body b value rest → IsPart key Body a value rest
+  part_at a b rest value p i d = rw i (is_part d)
 
-domain_section : Parses (IsSection (codes ":domain") (Closed IsNameWord)) (section (codes ":domain") (closed_item (any_word Name)))
-domain_section = parses_section _ _ _ (parses_closed IsNameWord (any_word Name) parses_name_word)
+  part-sound : (ts rest : List Lexeme) (value : A) → part key body ts ≡ got value rest → IsPart key Body ts value rest
+  part-sound ts rest value e =
+      let a = and_then-cases _ _ _ _ e in
+      let p = literal-keyword key _ _ _ a.2 in
+      part_at ts _ rest value _ p.1 (parses.sound _ _ _ a.3)
 
-objects_section : Parses (IsSection (codes ":objects") (Many IsObject)) (section (codes ":objects") (many (untyped Name)))
-objects_section = parses_section _ _ _ (parses_many IsObject (untyped Name) object_is_item parses_object)
+  part-complete : (ts rest : List Lexeme) (value : A) → IsPart key Body ts value rest → part key body ts ≡ got value rest
+  unfolding and_then
+  part-complete ts rest value (is_part {ts = after} d) = rw ((bytes_eq-Decides key key).1 refl) (parses.complete after rest value d)
 
-init_section : Parses (IsSection (codes ":init") (Many IsGroundAtom)) (section (codes ":init") (many ground_atom))
-init_section = parses_section _ _ _ (parses_many IsGroundAtom ground_atom ground_atom_is_item parses_ground_atom)
+  pub parses_part : Parses (IsPart key Body) (part key body)
+  parses_part = record { sound = part-sound; complete = part-complete }
 
-goal_section : Parses (IsSection (codes ":goal") (Closed IsGroundAtom)) (section (codes ":goal") (closed_item ground_atom))
-goal_section = parses_section _ _ _ (parses_closed IsGroundAtom ground_atom parses_ground_atom)
+-- items within parentheses
+module _ {A : Type 0} (Item : List Lexeme → A → List Lexeme → Type 0) (items : List Lexeme → Read (List A)) (parses : Parses (Many Item) items) where
+  listed_at : (a b rest : List Lexeme) (value : List A) (p : ℕ) → a ≡ left p ∷ b → Many Item b value rest → Listed Item a value rest
+  listed_at a b rest value p i d = rw i (listed d)
 
-domain_at : (a b c : List Lexeme) (own : Word) (predicates : List PredText) (p : ℕ) (text : DomainText) → IsOpening (codes "domain") a own b → IsSection (codes ":predicates") (Many IsPredicate) b predicates c → c ≡ right p ∷ []
-    → record { name = own; requirements = []; types = []; constants = []; predicates = predicates; actions = [] } ≡ text → IsDomain a text
-domain_at a b c own predicates p text d s i same = rw (← same) (is_domain {z = p} d (rw i at s))
+  listed-sound : (ts rest : List Lexeme) (value : List A) → in_list items ts ≡ got value rest → Listed Item ts value rest
+  listed-sound ts rest value e =
+      let a = and_then-cases _ _ _ _ e in
+      let p = mark-left _ _ _ a.2 in
+      listed_at ts _ rest value _ p.1 (parses.sound _ _ _ a.3)
 
-pub domain-sound : (ts : List Lexeme) (text : DomainText) → domain ts ≡ got text [] → IsDomain ts text
-unfolding domain
-domain-sound ts text e =
-    let a = and_then-cases _ _ _ _ e in
-    let b = and_then-cases _ _ _ _ a.3 in
-    let c = and_then-cases _ _ _ _ b.3 in
-    let same = same_got c.3 in
-    let p = mark-right _ _ _ c.2 in
-    domain_at ts _ _ _ _ p.0 text ((parses_opening (codes "domain")).sound _ _ _ a.2) (predicates_section.sound _ _ _ b.2) (p.1 ∙ ap (λ l. right p.0 ∷ l) same.1) same.0
+  listed-complete : (ts rest : List Lexeme) (value : List A) → Listed Item ts value rest → in_list items ts ≡ got value rest
+  unfolding and_then
+  listed-complete ts rest value (listed {ts = after} d) = parses.complete after rest value d
 
-pub domain-complete : (ts : List Lexeme) (text : DomainText) → IsDomain ts text → domain ts ≡ got text []
-unfolding domain and_then
-domain-complete ts text (is_domain {z = z} {mid = mid} {own = own} {predicates = predicates} d s) =
-    rw ((parses_opening (codes "domain")).complete ts mid own d, predicates_section.complete mid (right z ∷ []) predicates s) refl
-
-problem_at : (a b c d e f : List Lexeme) (own domain : Word) (objects : List Typed) (init : List AtomText) (goal : AtomText) (p : ℕ) (text : ProblemText)
-    → IsOpening (codes "problem") a own b → IsSection (codes ":domain") (Closed IsNameWord) b domain c → IsSection (codes ":objects") (Many IsObject) c objects d
-    → IsSection (codes ":init") (Many IsGroundAtom) d init e → IsSection (codes ":goal") (Closed IsGroundAtom) e goal f → f ≡ right p ∷ []
-    → record { name = own; domain = domain; requirements = []; objects = objects; init = init; goal = goal ∷ [] } ≡ text → IsProblem a text
-problem_at a b c d e f own domain objects init goal p text o s t u v i same = rw (← same) (is_problem {z = p} o s t u (rw i at v))
-
-pub problem-sound : (ts : List Lexeme) (text : ProblemText) → problem ts ≡ got text [] → IsProblem ts text
-unfolding problem
-problem-sound ts text e =
-    let a = and_then-cases _ _ _ _ e in
-    let b = and_then-cases _ _ _ _ a.3 in
-    let c = and_then-cases _ _ _ _ b.3 in
-    let d = and_then-cases _ _ _ _ c.3 in
-    let f = and_then-cases _ _ _ _ d.3 in
-    let g = and_then-cases _ _ _ _ f.3 in
-    let same = same_got g.3 in
-    let p = mark-right _ _ _ g.2 in
-    problem_at ts _ _ _ _ _ _ _ _ _ _ p.0 text ((parses_opening (codes "problem")).sound _ _ _ a.2) (domain_section.sound _ _ _ b.2) (objects_section.sound _ _ _ c.2)
-    (init_section.sound _ _ _ d.2) (goal_section.sound _ _ _ f.2) (p.1 ∙ ap (λ l. right p.0 ∷ l) same.1) same.0
-
-pub problem-complete : (ts : List Lexeme) (text : ProblemText) → IsProblem ts text → problem ts ≡ got text []
-unfolding problem and_then
-problem-complete ts text (is_problem {z = z} {after_name = b} {after_domain = c} {after_objects = d} {after_init = e} {own = own} {domain = theirs} {objects = objects} {init = init} {goal = goal} o s t u v) =
-    rw ((parses_opening (codes "problem")).complete ts b own o, domain_section.complete b c theirs s, objects_section.complete c d objects t, init_section.complete d e init u, goal_section.complete e (right z ∷ []) goal v) refl
+  pub parses_listed : Parses (Listed Item) (in_list items)
+  parses_listed = record { sound = listed-sound; complete = listed-complete }

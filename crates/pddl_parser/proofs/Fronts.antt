@@ -1,13 +1,14 @@
 -- What stands at the front of a text's lexemes.
-use Rattle.std.proofs.Common.{◌≡◌, ℕ, ◌≤◌, Bool, true, List, [], ◌∷◌, length, drop, get_or, slice_range, IsTrue, ◌↔◌, ◌&&◌, Decides, bytes_eq, refl, sym, ◌∙◌, arith}
+use Rattle.std.proofs.Common.{◌≡◌, ℕ, ◌≤◌, Bool, true, false, cond, List, [], ◌∷◌, length, drop, get_or, slice_range, IsTrue, ◌↔◌, ◌&&◌, Decides, bytes_eq, refl, sym, ap, ◌∙◌, arith}
 use Rattle.std.proofs.lemmas.Bool.Decides.{same_from_decides}
 use Rattle.std.proofs.lemmas.Slice.Eq.{bytes_eq-Decides}
 use Rattle.pddl_parser.specs.declared.lexer.Kind.{Kind}
-use Rattle.pddl_parser.specs.declared.lexer.Kind.TheVariants.{RightParen, Name, Variable, Keyword}
+use Rattle.pddl_parser.specs.declared.lexer.Kind.TheVariants.{LeftParen, RightParen, Name, Variable, Keyword}
+use Rattle.pddl_parser.specs.declared.stop.Why.TheVariants.{Shape}
 use Rattle.pddl_parser.specs.declared.lexer.Token.{Token}
 use Rattle.pddl_parser.specs.Lexing.{InOrder}
-use Rattle.pddl_parser.specs.Lexemes.{Lexeme, right, lexeme, lower, lexemes, AreWithin}
-use Rattle.pddl_parser.specs.Reading.{Read, got, stuck, and_then, is_of, is_word, word_of, comes, comes_as}
+use Rattle.pddl_parser.specs.Lexemes.{Lexeme, left, right, name, keyword, lexeme, lower, lexemes, AreWithin}
+use Rattle.pddl_parser.specs.Reading.{Read, got, stuck, and_then, is_of, is_word, word_of, comes, comes_as, mark, literal}
 
 -- tokens that stand in order stand within the text
 pub AreWithin-from_InOrder : (bytes : List ℕ) (low : ℕ) (ts : List Token) → InOrder low (length bytes) ts → AreWithin bytes ts
@@ -49,3 +50,31 @@ and_then-cases (stuck why bad) further value rest e = absurd cc
 -- what was got is the same
 pub same_got : {A : Type 0} {x y : A} {rest left_over : List Lexeme} → got x rest ≡ got y left_over → (x ≡ y) × (rest ≡ left_over)
 same_got e = (cc, cc)
+
+-- a mark that was read
+pub mark-left : (ts rest : List Lexeme) (u : Unit {0}) → mark LeftParen ts ≡ got u rest → (p : ℕ) × (ts ≡ left p ∷ rest)
+mark-left [] rest u e = absurd cc
+mark-left (left p ∷ ts) rest u e = (p, ap (λ l. left p ∷ l) (same_got e).1)
+mark-left (_ ∷ ts) rest u e = absurd cc
+
+pub mark-right : (ts rest : List Lexeme) (u : Unit {0}) → mark RightParen ts ≡ got u rest → (p : ℕ) × (ts ≡ right p ∷ rest)
+mark-right [] rest u e = absurd cc
+mark-right (right p ∷ ts) rest u e = (p, ap (λ l. right p ∷ l) (same_got e).1)
+mark-right (_ ∷ ts) rest u e = absurd cc
+
+-- a word that is the given one
+given : (word_at : List ℕ → List Lexeme → List Lexeme) (text w : List ℕ) (ts rest : List Lexeme) (u : Unit {0}) (equal_texts : Bool) → bytes_eq w text ≡ equal_texts
+    → cond equal_texts (got tt ts) (stuck Shape (word_at w ts)) ≡ got u rest → word_at w ts ≡ word_at text rest
+given word_at text w ts rest u true is e = rw ((bytes_eq-Decides w text).0 is, (same_got e).1) refl
+given word_at text w ts rest u false is e = absurd cc
+
+-- a given word that was read
+pub literal-name : (text : List ℕ) (ts rest : List Lexeme) (u : Unit {0}) → literal Name text ts ≡ got u rest → (p : ℕ) × (ts ≡ name text p ∷ rest)
+literal-name text [] rest u e = absurd cc
+literal-name text (name w p ∷ ts) rest u e = (p, given (λ w ts. name w p ∷ ts) text w ts rest u (bytes_eq w text) refl e)
+literal-name text (_ ∷ ts) rest u e = absurd cc
+
+pub literal-keyword : (text : List ℕ) (ts rest : List Lexeme) (u : Unit {0}) → literal Keyword text ts ≡ got u rest → (p : ℕ) × (ts ≡ keyword text p ∷ rest)
+literal-keyword text [] rest u e = absurd cc
+literal-keyword text (keyword w p ∷ ts) rest u e = (p, given (λ w ts. keyword w p ∷ ts) text w ts rest u (bytes_eq w text) refl e)
+literal-keyword text (_ ∷ ts) rest u e = absurd cc

@@ -25,19 +25,19 @@ abbrev pub after_items : {A : Type 0} → List A → Read (List A) → Read (Lis
 after_items [] read = read
 after_items (item ∷ items) read = before_others item (after_items items read)
 
-after_items-push : {A : Type 0} (out : List A) (value : A) (r : Read (List A)) → after_items (out ++ value ∷ []) r ≡ after_items out (before_others value r)
+pub after_items-push : {A : Type 0} (out : List A) (value : A) (r : Read (List A)) → after_items (out ++ value ∷ []) r ≡ after_items out (before_others value r)
 after_items-push [] value r = refl
 after_items-push (x ∷ out) value r = ap (before_others x) (after_items-push out value r)
 
-after_items-stuck : {A : Type 0} (out : List A) (why : Why) (bad : List Lexeme) → after_items out (stuck why bad) ≡ stuck why bad
+pub after_items-stuck : {A : Type 0} (out : List A) (why : Why) (bad : List Lexeme) → after_items out (stuck why bad) ≡ stuck why bad
 after_items-stuck [] why bad = refl
 after_items-stuck (x ∷ out) why bad = ap (before_others x) (after_items-stuck out why bad)
 
-after_items-got : {A : Type 0} (out items : List A) (rest : List Lexeme) → after_items out (got items rest) ≡ got (out ++ items) rest
+pub after_items-got : {A : Type 0} (out items : List A) (rest : List Lexeme) → after_items out (got items rest) ≡ got (out ++ items) rest
 after_items-got [] items rest = refl
 after_items-got (x ∷ out) items rest = ap (before_others x) (after_items-got out items rest)
 
-before_others-got : {A : Type 0} (value : A) (r : Read (List A)) (all : List A) (rest : List Lexeme) → before_others value r ≡ got all rest → (items : List A) × (r ≡ got items rest) × (all ≡ value ∷ items)
+pub before_others-got : {A : Type 0} (value : A) (r : Read (List A)) (all : List A) (rest : List Lexeme) → before_others value r ≡ got all rest → (items : List A) × (r ≡ got items rest) × (all ≡ value ∷ items)
 before_others-got value (got items mid) all rest e = let same = same_got e in (items, ap (got items) same.1, sym same.0)
 before_others-got value (stuck why bad) all rest e = absurd cc
 

@@ -1,22 +1,28 @@
 -- From the lexemes of a text to its bytes: what a reading answers, and that a text is the only one.
-use Rattle.std.proofs.Common.{◌≡◌, ℕ, ◌+◌, ◌<◌, ◌≤◌, List, [], ◌∷◌, length, codes, Result, Ok, Err, refl, sym, ap, ◌∙◌, subst, arith}
+use Rattle.std.proofs.Common.{◌≡◌, ℕ, ◌+◌, ◌<◌, ◌≤◌, true, List, [], ◌∷◌, length, codes, Result, Ok, Err, All, refl, sym, ap, ◌∙◌, subst, arith}
 use Rattle.std.proofs.lemmas.List.{length-map}
+use Rattle.std.proofs.lemmas.List.Elements.{All-cons}
 use Rattle.pddl_parser.specs.declared.lexer.Token.{Token}
 use Rattle.pddl_parser.specs.declared.stop.Stop.{Stop}
 use Rattle.pddl_parser.specs.declared.stop.Stop.TheVariants.{Refused, OutOfMemory}
 use Rattle.pddl_parser.specs.declared.texts.Word.{Word}
-use Rattle.pddl_parser.specs.declared.texts.PredText.{PredText}
+use Rattle.pddl_parser.specs.declared.texts.AtomText.{AtomText}
+use Rattle.pddl_parser.specs.declared.texts.ActionText.{ActionText}
 use Rattle.pddl_parser.specs.declared.texts.DomainText.{DomainText}
 use Rattle.pddl_parser.specs.declared.texts.ProblemText.{ProblemText}
+use Rattle.pddl_parser.specs.declared.formulas.Terms.TheVariants.{Names}
 use Rattle.pddl_parser.specs.Lexing.{tokens_of, InOrder}
-use Rattle.pddl_parser.specs.Lexemes.{Lexeme, see, lexemes}
-use Rattle.pddl_parser.specs.Grammar.{IsOpening, is_opening, IsSection, is_section, IsDomain, is_domain, IsProblem, is_problem, Many, IsPredicate, Closed, closed, IsNameWord, is_name_word}
+use Rattle.pddl_parser.specs.Depth.{is_shallow}
+use Rattle.pddl_parser.specs.Lexemes.{Lexeme, right, see, lexemes}
+use Rattle.pddl_parser.specs.Grammar.{IsOpening, is_opening, IsSection, is_section, IsAction, IsDomain, is_domain, IsProblem, is_problem, Many, close, more, Closed, closed, IsNameWord, is_name_word, Conjunction, IsGroundAtom}
 use Rattle.pddl_parser.specs.Reading.{Read, Reads, got, end, domain, problem}
-use Rattle.pddl_parser.specs.Replies.{HasText, HasDomain, HasProblem, IsReplyBy, refusal_of_stop}
+use Rattle.pddl_parser.specs.Replies.{HasText, HasDomain, HasProblem, IsReplyBy, IsActionWithin, refusal_of_stop}
 use Rattle.pddl_parser.proofs.Fronts.{same_got}
 use Rattle.pddl_parser.proofs.Pieces.{tokens_are_in_order}
-use Rattle.pddl_parser.proofs.Items.{IsItem, Many-count}
-use Rattle.pddl_parser.proofs.Exact.{domain-sound, domain-complete, problem-sound, problem-complete, predicate_is_item, object_is_item, ground_atom_is_item}
+use Rattle.pddl_parser.proofs.Items.{Many-count}
+use Rattle.pddl_parser.proofs.Exact.{predicate_is_item, object_is_item, atom_is_item}
+use Rattle.pddl_parser.proofs.ConjunctionRules.{formula-count}
+use Rattle.pddl_parser.proofs.WholeRules.{domain-sound, domain-complete, problem-sound, problem-complete, action-count, action_is_item}
 
 -- reading to the end is what the grammar says of a whole text
 pub record ParsesWhole {A : Type 0} (Whole : List Lexeme → A → Type 0) (read : List Lexeme → Read A) : Type 0 where
@@ -36,23 +42,23 @@ module _ {A : Type 0} (Whole : List Lexeme → A → Type 0) (read : List Lexeme
   only_reading : (ts : List Token) → tokens_of bytes ≡ Ok ts → (text : A) → HasText Whole bytes text → read (lexemes bytes ts) ≡ got text []
   only_reading ts are text has =
       let same = same_tokens (sym are ∙ has.1) in
-      parses.complete _ text (subst (λ us. Whole (lexemes bytes us) text) (sym same) has.2)
+      parses.complete _ text (subst (λ us. Whole (lexemes bytes us) text) (sym same) has.3)
 
-  pub has_text : (ts : List Token) (text : A) (rest left_over : List Lexeme) → tokens_of bytes ≡ Ok ts → read (lexemes bytes ts) ≡ got text rest → end rest ≡ got tt left_over → HasText Whole bytes text
-  has_text ts text [] left_over are e at_end = (ts, are, parses.sound _ text e)
-  has_text ts text (t ∷ rest) left_over are e at_end = absurd cc
+  pub has_text : (ts : List Token) (text : A) (rest left_over : List Lexeme) → tokens_of bytes ≡ Ok ts → is_shallow ts ≡ true → read (lexemes bytes ts) ≡ got text rest → end rest ≡ got tt left_over → HasText Whole bytes text
+  has_text ts text [] left_over are shallow e at_end = (ts, are, shallow, parses.sound _ text e)
+  has_text ts text (t ∷ rest) left_over are shallow e at_end = absurd cc
 
   pub reply_at_stop : (ts : List Token) (stop : Stop) (all bad : List Lexeme) → tokens_of bytes ≡ Ok ts → all ≡ lexemes bytes ts → Reads (read all) (Err stop) bad → IsReplyBy (HasText Whole bytes) (Err (refusal_of_stop stop))
   reply_at_stop ts (Refused why) all bad are is e = (refl, λ text has. let there = only_reading ts are text has in let same = ap read is in absurd cc)
   reply_at_stop ts OutOfMemory all bad are is e = tt
 
   pub reply_at_rest : (ts : List Token) (text : A) (rest : List Lexeme) (stop : Stop) (bad : List Lexeme) → tokens_of bytes ≡ Ok ts → read (lexemes bytes ts) ≡ got text rest → Reads (end rest) (Err stop) bad → IsReplyBy (HasText Whole bytes) (Err (refusal_of_stop stop))
-  reply_at_rest ts text [] (Refused why) bad are e more = absurd cc
-  reply_at_rest ts text (t ∷ rest) (Refused why) bad are e more = (refl, λ other has. let there = only_reading ts are other has in absurd cc)
-  reply_at_rest ts text rest OutOfMemory bad are e more = tt
+  reply_at_rest ts text [] (Refused why) bad are e past = absurd cc
+  reply_at_rest ts text (t ∷ rest) (Refused why) bad are e past = (refl, λ other has. let there = only_reading ts are other has in absurd cc)
+  reply_at_rest ts text rest OutOfMemory bad are e past = tt
 
   pub one_text : (x y : A) → HasText Whole bytes x → HasText Whole bytes y → x ≡ y
-  one_text x y p q = (same_got (sym (parses.complete _ x p.2) ∙ only_reading p.0 p.1 y q)).0
+  one_text x y p q = (same_got (sym (parses.complete _ x p.3) ∙ only_reading p.0 p.1 y q)).0
 
 -- bytes have one domain at most
 pub HasDomain-unique : (bytes : List ℕ) (d e : DomainText) → HasDomain bytes d → HasDomain bytes e → d ≡ e
@@ -74,26 +80,46 @@ length-lexemes bytes ts are =
 opening-shorter : (kind : List ℕ) (ts rest : List Lexeme) {own : Word} → IsOpening kind ts own rest → length rest < length ts
 opening-shorter kind ts rest is_opening = omega arith
 
-IsDomain-count : (ts : List Lexeme) (text : DomainText) → IsDomain ts text → length text.predicates ≤ length ts
-IsDomain-count ts text (is_domain {mid = mid} {predicates = predicates} d s) = omega (arith, opening-shorter _ ts mid d, count mid _ predicates s)
-  where
-    count : (us rest : List Lexeme) (items : List PredText) → IsSection (codes ":predicates") (Many IsPredicate) us items rest → length items < length us
-    count us rest items (is_section {ts = after} ds) = omega (arith, Many-count predicate_is_item after rest items ds)
+-- the items of a section and what is left are fewer than the lexemes
+section-count : {A : Type 0} {key : List ℕ} {Body : List Lexeme → List A → List Lexeme → Type 0} → ((ts rest : List Lexeme) (items : List A) → Body ts items rest → length items + length rest < length ts)
+    → (us rest : List Lexeme) (items : List A) → IsSection key Body us items rest → length items + length rest < length us
+section-count fewer us rest items (is_section {ts = after} d) = omega (arith, fewer after rest items d)
 
--- predicates are no more than the bytes
-pub HasDomain-count : (bytes : List ℕ) (text : DomainText) → HasDomain bytes text → length text.predicates ≤ length bytes
-HasDomain-count bytes text has = omega (arith, IsDomain-count _ text has.2, length-lexemes bytes has.0 has.1)
+IsDomain-count : (ts : List Lexeme) (text : DomainText) → IsDomain ts text → length text.predicates + length text.actions ≤ length ts
+IsDomain-count ts text (is_domain {after_name = b} {after_predicates = c} {predicates = predicates} {actions = actions} d s t) =
+    omega (arith, opening-shorter _ ts b d, section-count (Many-count predicate_is_item) b c predicates s, Many-count action_is_item c [] actions t)
 
-IsProblem-count : (ts : List Lexeme) (text : ProblemText) → IsProblem ts text → length text.objects + length text.init ≤ length ts
-IsProblem-count ts text (is_problem {after_name = b} {after_domain = c} {after_objects = d} {after_init = e} {objects = objects} {init = init} o s t u v) =
-    omega (arith, opening-shorter _ ts b o, own b c s, count object_is_item c d objects t, count ground_atom_is_item d e init u)
+-- predicates and actions are no more than the bytes
+pub HasDomain-count : (bytes : List ℕ) (text : DomainText) → HasDomain bytes text → length text.predicates + length text.actions ≤ length bytes
+HasDomain-count bytes text has = omega (arith, IsDomain-count _ text has.3, length-lexemes bytes has.0 has.1)
+
+-- each action's lists are no longer than the lexemes that it is read of
+actions-within : (count : ℕ) (ts rest : List Lexeme) (actions : List ActionText) → length ts ≤ count → Many IsAction ts actions rest → All (IsActionWithin count) actions
+actions-within count ts rest actions fits close = λ k d h. absurd (omega arith)
+actions-within count ts rest actions fits (more {mid = mid} {item = first} {items = others} d ds) =
+    let short = action-count ts mid first d in
+    All-cons (IsActionWithin count) first others
+    (record { params = omega (arith, short.params); pre = omega (arith, short.pre); add = omega (arith, short.add); del = omega (arith, short.del) })
+    (actions-within count mid rest others (omega (arith, short.params)) ds)
+
+IsDomain-within : (count : ℕ) (ts : List Lexeme) (text : DomainText) → length ts ≤ count → IsDomain ts text → All (IsActionWithin count) text.actions
+IsDomain-within count ts text fits (is_domain {after_name = b} {after_predicates = c} {predicates = predicates} {actions = actions} d s t) =
+    actions-within count c [] actions (omega (arith, opening-shorter _ ts b d, section-count (Many-count predicate_is_item) b c predicates s)) t
+
+-- the lists of each action are no longer than the bytes
+pub HasDomain-within : (bytes : List ℕ) (text : DomainText) → HasDomain bytes text → All (IsActionWithin (length bytes)) text.actions
+HasDomain-within bytes text has = IsDomain-within _ _ text (length-lexemes bytes has.0 has.1) has.3
+
+IsProblem-count : (ts : List Lexeme) (text : ProblemText) → IsProblem ts text → length text.objects + length text.init + length text.goal ≤ length ts
+IsProblem-count ts text (is_problem {z = z} {after_name = b} {after_domain = c} {after_objects = d} {after_init = e} {objects = objects} {init = init} {goal = goal} o s t u v) =
+    omega (arith, opening-shorter _ ts b o, own b c s, section-count (Many-count object_is_item) c d objects t, section-count (Many-count (atom_is_item Names)) d e init u, section-count of_goal e (right z ∷ []) goal v)
   where
     own : (us rest : List Lexeme) {w : Word} → IsSection (codes ":domain") (Closed IsNameWord) us w rest → length rest < length us
     own us rest (is_section (closed is_name_word)) = omega arith
 
-    count : {A : Type 0} {key : List ℕ} {Item : List Lexeme → A → List Lexeme → Type 0} → IsItem Item → (us rest : List Lexeme) (items : List A) → IsSection key (Many Item) us items rest → length items + length rest < length us
-    count is_item us rest items (is_section {ts = after} ds) = omega (arith, Many-count is_item after rest items ds)
+    of_goal : (us rest : List Lexeme) (items : List AtomText) → Closed (Conjunction IsGroundAtom) us items rest → length items + length rest < length us
+    of_goal us rest items (closed {p = p} d) = omega (arith, formula-count Names us (right p ∷ rest) items d)
 
--- objects and atoms of the start are no more than the bytes
-pub HasProblem-count : (bytes : List ℕ) (text : ProblemText) → HasProblem bytes text → length text.objects + length text.init ≤ length bytes
-HasProblem-count bytes text has = omega (arith, IsProblem-count _ text has.2, length-lexemes bytes has.0 has.1)
+-- objects, and atoms of the start and of the goal, are no more than the bytes
+pub HasProblem-count : (bytes : List ℕ) (text : ProblemText) → HasProblem bytes text → length text.objects + length text.init + length text.goal ≤ length bytes
+HasProblem-count bytes text has = omega (arith, IsProblem-count _ text has.3, length-lexemes bytes has.0 has.1)

@@ -1,3 +1,4 @@
+pub mod Depth
 pub mod Grammar
 pub mod Lexemes
 pub mod Lexing

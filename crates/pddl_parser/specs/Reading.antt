@@ -11,10 +11,17 @@ use Rattle.pddl_parser.specs.declared.texts.Word.{Word}
 use Rattle.pddl_parser.specs.declared.texts.Typed.{Typed}
 use Rattle.pddl_parser.specs.declared.texts.AtomText.{AtomText}
 use Rattle.pddl_parser.specs.declared.texts.PredText.{PredText}
+use Rattle.pddl_parser.specs.declared.texts.ActionText.{ActionText}
 use Rattle.pddl_parser.specs.declared.texts.DomainText.{DomainText}
 use Rattle.pddl_parser.specs.declared.texts.ProblemText.{ProblemText}
+use Rattle.pddl_parser.specs.declared.cursor.Start.{Start}
+use Rattle.pddl_parser.specs.declared.cursor.Start.TheVariants.{Nothing, And, Other}
+use Rattle.pddl_parser.specs.declared.formulas.Terms.{Terms}
+use Rattle.pddl_parser.specs.declared.formulas.Terms.TheVariants.{Names, NamesAndVariables}
+use Rattle.pddl_parser.specs.declared.formulas.AtomChange.{AtomChange}
+use Rattle.pddl_parser.specs.declared.formulas.AtomChange.TheVariants.{Added, Deleted}
 use Rattle.pddl_parser.specs.Lexemes.{Lexeme, left, right, name, variable, keyword, dash, equal}
-use Rattle.pddl_parser.specs.Grammar.{word, reserved_heads}
+use Rattle.pddl_parser.specs.Grammar.{word, reserved_heads, added, deleted}
 
 -- a value and the lexemes after it, or the kind of fault and the lexemes from the offending one on
 pub data Read (A : Type 0) : Type 0 where
@@ -110,11 +117,24 @@ items_within item (suc room) ts =
 unfoldable pub many : {A : Type 0} → (List Lexeme → Read A) → List Lexeme → Read (List A)
 many item ts = items_within item (suc (length ts)) ts
 
--- ( HEAD NAME* )
-unfoldable pub ground_atom : List Lexeme → Read AtomText
-ground_atom ts =
-    and_then (mark LeftParen ts) (λ _ ts. and_then (head ts) (λ head ts. and_then (many (any_word Name) ts) (λ args rest.
-    got (record { head = head; args = args }) rest)))
+-- ( body, where the body carries the right parenthesis
+abbrev pub in_list : {A : Type 0} → (List Lexeme → Read A) → List Lexeme → Read A
+in_list body ts = and_then (mark LeftParen ts) (λ _ ts. body ts)
+
+-- an argument of an atom
+abbrev pub term : Terms → List Lexeme → Read Word
+term Names ts = any_word Name ts
+term NamesAndVariables ts = if comes Variable ts then any_word Variable ts else any_word Name ts
+
+-- HEAD term* )
+unfoldable pub atom_body : Terms → List Lexeme → Read AtomText
+atom_body terms ts =
+    and_then (head ts) (λ head ts. and_then (many (term terms) ts) (λ args rest.
+    got (record { head = head; args = args }) rest))
+
+-- ( HEAD term* )
+abbrev pub atom : Terms → List Lexeme → Read AtomText
+atom terms ts = in_list (atom_body terms) ts
 
 -- ( HEAD VARIABLE* )
 unfoldable pub predicate : List Lexeme → Read PredText
@@ -141,6 +161,57 @@ section key body ts = and_then (section_key key ts) (λ _ ts. body ts)
 abbrev pub closed_item : {A : Type 0} → (List Lexeme → Read A) → List Lexeme → Read A
 closed_item item ts = and_then (item ts) (λ value ts. and_then (mark RightParen ts) (λ _ rest. got value rest))
 
+-- not atom ), or HEAD term* )
+unfoldable pub change_body : List Lexeme → Read AtomChange
+change_body ts =
+    if comes_as Name (codes "not") ts then and_then (closed_item (atom NamesAndVariables) (drop 1 ts)) (λ atom rest. got (Deleted atom) rest)
+    else and_then (atom_body NamesAndVariables ts) (λ atom rest. got (Added atom) rest)
+
+-- how a part of a conjunction starts: ( ), or ( and, or the left parenthesis of an item
+unfoldable pub start : List Lexeme → Read Start
+start ts =
+    and_then (mark LeftParen ts) (λ _ ts.
+    if comes RightParen ts then got Nothing (drop 1 ts)
+    else (if comes_as Name (codes "and") ts then got And (drop 1 ts)
+    else got Other ts))
+
+-- what a start leads to, where so many conjunctions are open, and items are read on by `further`
+abbrev pub after_start : {A : Type 0} → (List Lexeme → Read A) → (ℕ → List Lexeme → Read (List A)) → ℕ → Start → List Lexeme → Read (List A)
+after_start body further count Nothing ts = further count ts
+after_start body further count And ts = further (suc count) ts
+after_start body further count Other ts = and_then (body ts) (λ item rest. before_others item (further count rest))
+
+-- the items up to the right parentheses of so many open conjunctions, in at most so many steps
+abbrev pub conjuncts_within : {A : Type 0} → (List Lexeme → Read A) → ℕ → ℕ → List Lexeme → Read (List A)
+conjuncts_within body zero count ts = stuck Shape ts
+conjuncts_within body (suc room) zero ts = got [] ts
+conjuncts_within body (suc room) (suc count) ts =
+    if comes RightParen ts then conjuncts_within body room count (drop 1 ts)
+    else and_then (start ts) (λ first rest. after_start body (conjuncts_within body room) (suc count) first rest)
+
+-- the items up to the right parentheses of so many open conjunctions. Each step takes a lexeme, so there is room for all
+unfoldable pub conjuncts : {A : Type 0} → (List Lexeme → Read A) → ℕ → List Lexeme → Read (List A)
+conjuncts body count ts = conjuncts_within body (suc (length ts)) count ts
+
+-- ( ), or ( and conjunction* ), or an item
+unfoldable pub conjunction : {A : Type 0} → (List Lexeme → Read A) → List Lexeme → Read (List A)
+conjunction body ts = and_then (start ts) (λ first rest. after_start body (conjuncts body) 0 first rest)
+
+-- KEYWORD body
+abbrev pub part : {A : Type 0} → List ℕ → (List Lexeme → Read A) → List Lexeme → Read A
+part key body ts = and_then (literal Keyword key ts) (λ _ ts. body ts)
+
+-- NAME :parameters ( VARIABLE* ) :precondition formula :effect effect
+unfoldable pub action_body : List Lexeme → Read ActionText
+action_body ts =
+    and_then (any_word Name ts) (λ own ts. and_then (part (codes ":parameters") (in_list (many (untyped Variable))) ts) (λ params ts.
+    and_then (part (codes ":precondition") (conjunction (atom_body NamesAndVariables)) ts) (λ pre ts. and_then (part (codes ":effect") (conjunction change_body) ts) (λ changes rest.
+    got (record { name = own; params = params; pre = pre; add = added changes; del = deleted changes }) rest))))
+
+-- ( :action NAME :parameters ( VARIABLE* ) :precondition formula :effect effect )
+abbrev pub action : List Lexeme → Read ActionText
+action ts = section (codes ":action") (closed_item action_body) ts
+
 -- nothing is left
 abbrev pub end : List Lexeme → Read (Unit {0})
 end [] = got tt []
@@ -149,16 +220,16 @@ end (t ∷ ts) = stuck Shape (t ∷ ts)
 -- the text of a domain, with what stands after it left
 unfoldable pub domain : List Lexeme → Read DomainText
 domain ts =
-    and_then (opening (codes "domain") ts) (λ own ts. and_then (section (codes ":predicates") (many predicate) ts) (λ predicates ts. and_then (mark RightParen ts) (λ _ rest.
-    got (record { name = own; requirements = []; types = []; constants = []; predicates = predicates; actions = [] }) rest)))
+    and_then (opening (codes "domain") ts) (λ own ts. and_then (section (codes ":predicates") (many predicate) ts) (λ predicates ts. and_then (many action ts) (λ actions rest.
+    got (record { name = own; requirements = []; types = []; constants = []; predicates = predicates; actions = actions }) rest)))
 
 -- the text of a problem, with what stands after it left
 unfoldable pub problem : List Lexeme → Read ProblemText
 problem ts =
     and_then (opening (codes "problem") ts) (λ own ts. and_then (section (codes ":domain") (closed_item (any_word Name)) ts) (λ domain ts.
-    and_then (section (codes ":objects") (many (untyped Name)) ts) (λ objects ts. and_then (section (codes ":init") (many ground_atom) ts) (λ init ts.
-    and_then (section (codes ":goal") (closed_item ground_atom) ts) (λ goal ts. and_then (mark RightParen ts) (λ _ rest.
-    got (record { name = own; domain = domain; requirements = []; objects = objects; init = init; goal = goal ∷ [] }) rest))))))
+    and_then (section (codes ":objects") (many (untyped Name)) ts) (λ objects ts. and_then (section (codes ":init") (many (atom Names)) ts) (λ init ts.
+    and_then (section (codes ":goal") (closed_item (conjunction (atom_body Names))) ts) (λ goal ts. and_then (mark RightParen ts) (λ _ rest.
+    got (record { name = own; domain = domain; requirements = []; objects = objects; init = init; goal = goal }) rest))))))
 
 -- a call answered what is read, and left the rest, or the lexemes from the offending one on; want of memory says nothing
 abbrev pub Reads : {A : Type 0} → Read A → Result A Stop → List Lexeme → Type 0

@@ -1,5 +1,5 @@
 -- What the bytes of a text mean, and what reading them has to answer.
-use Rattle.std.specs.Prelude.{◌≡◌, ℕ, List, [], ◌∷◌, Result, Ok, Err, All}
+use Rattle.std.specs.Prelude.{◌≡◌, ℕ, ◌≤◌, true, ◌⊎◌, List, [], ◌∷◌, length, Result, Ok, Err, All}
 use Rattle.flag_rules.specs.Name.{IsName}
 use Rattle.pddl_parser.specs.declared.lexer.LexRefusal.{LexRefusal}
 use Rattle.pddl_parser.specs.declared.lexer.LexRefusal.TheVariants.{Byte as WrongByte, OutOfMemory as NoRoom}
@@ -12,15 +12,17 @@ use Rattle.pddl_parser.specs.declared.texts.Word.{Word}
 use Rattle.pddl_parser.specs.declared.texts.Typed.{Typed}
 use Rattle.pddl_parser.specs.declared.texts.AtomText.{AtomText}
 use Rattle.pddl_parser.specs.declared.texts.PredText.{PredText}
+use Rattle.pddl_parser.specs.declared.texts.ActionText.{ActionText}
 use Rattle.pddl_parser.specs.declared.texts.DomainText.{DomainText}
 use Rattle.pddl_parser.specs.declared.texts.ProblemText.{ProblemText}
 use Rattle.pddl_parser.specs.Lexing.{tokens_of}
+use Rattle.pddl_parser.specs.Depth.{is_shallow}
 use Rattle.pddl_parser.specs.Lexemes.{Lexeme, lexemes}
 use Rattle.pddl_parser.specs.Grammar.{IsDomain, IsProblem}
 
--- bytes that have tokens, of which a relation holds with a text
+-- bytes that have tokens, nested no deeper than they may be, of which a relation holds with a text
 abbrev pub HasText : {A : Type 0} → (List Lexeme → A → Type 0) → List ℕ → A → Type 0
-HasText Relation bytes text = (tokens : List Token) × (tokens_of bytes ≡ Ok tokens) × Relation (lexemes bytes tokens) text
+HasText Relation bytes text = (tokens : List Token) × (tokens_of bytes ≡ Ok tokens) × (is_shallow tokens ≡ true) × Relation (lexemes bytes tokens) text
 
 -- the bytes are those of this domain
 abbrev pub HasDomain : List ℕ → DomainText → Type 0
@@ -65,10 +67,35 @@ pub record IsPredicateSpelled (predicate : PredText) : Type 0 where
   pub head : IsName predicate.head.text
   pub variables : All (λ (v : Typed). IsVariable v.word.text) predicate.params
 
+-- a name or a variable
+abbrev pub IsTermText : List ℕ → Type 0
+IsTermText text = IsName text ⊎ IsVariable text
+
+-- an atom whose head is a name, and whose arguments are names and variables
+pub record IsLiftedAtomSpelled (atom : AtomText) : Type 0 where
+  pub head : IsName atom.head.text
+  pub terms : All (λ (w : Word). IsTermText w.text) atom.args
+
+-- an action whose name is a name, whose parameters are variables, and whose atoms are of names and variables
+pub record IsActionSpelled (action : ActionText) : Type 0 where
+  pub own : IsName action.name.text
+  pub variables : All (λ (v : Typed). IsVariable v.word.text) action.params
+  pub pre : All IsLiftedAtomSpelled action.pre
+  pub add : All IsLiftedAtomSpelled action.add
+  pub del : All IsLiftedAtomSpelled action.del
+
+-- an action whose lists have each at most so many items
+pub record IsActionWithin (count : ℕ) (action : ActionText) : Type 0 where
+  pub params : length action.params ≤ count
+  pub pre : length action.pre ≤ count
+  pub add : length action.add ≤ count
+  pub del : length action.del ≤ count
+
 -- the words of a domain are spelled as names and as variables
 pub record IsDomainSpelled (text : DomainText) : Type 0 where
   pub own : IsName text.name.text
   pub predicates : All IsPredicateSpelled text.predicates
+  pub actions : All IsActionSpelled text.actions
 
 -- an atom of names
 pub record IsAtomSpelled (atom : AtomText) : Type 0 where

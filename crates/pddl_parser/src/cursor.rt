@@ -1,7 +1,7 @@
-ghost use Rattle.std.specs.Prelude.{◌≡◌, true, length, drop};
+ghost use Rattle.std.specs.Prelude.{◌≡◌, ◌<◌, true, length, drop, IfOk};
 ghost use Rattle.pddl_parser.specs.Lexemes.{lexemes, lower};
 ghost use Rattle.pddl_parser.specs.Lexing.{InOrder};
-ghost use Rattle.pddl_parser.specs.Reading.{Reads, is_word, comes, comes_as, comes_reserved, mark, literal, any_word, untyped, end, head};
+ghost use Rattle.pddl_parser.specs.Reading.{Reads, is_word, comes, comes_as, comes_reserved, mark, literal, any_word, untyped, start, end, head};
 
 use crate::lexer::{Kind, Token};
 use crate::stop::{Stop, Why};
@@ -9,6 +9,15 @@ use crate::texts::{Typed, Word};
 use flag_rules::Text;
 use std::alloc::Global;
 use std::marker::Model;
+
+/// How a part of a conjunction starts: as `( )`, as `( and`, or as another item, at its left
+/// parenthesis.
+#[derive(Clone, Copy, Debug)]
+pub enum Start {
+    Nothing,
+    And,
+    Other,
+}
 
 /// The tokens of a text that are still to be read. Contracts see the lexemes.
 #[derive(Drop)]
@@ -62,13 +71,13 @@ impl<'a> Cursor<'a> {
         }
     }
 
-    /// Passes the first token, if there is one.
+    /// Passes the first token, if there is one. Those that are left can be counted with one more.
     pub fn pass(&mut self)
-        ensures { self.new ≡ drop 1 self.old }
+        ensures left { self.new ≡ drop 1 self.old }
+        ensures few { length self.new < usize.MAX }
     {
-        if let [_, rest @ ..] = self.tokens {
-            self.tokens = rest;
-        }
+        let count = self.tokens.len().min(1);
+        self.tokens = &self.tokens[count..];
     }
 
     /// Whether what may not head an atom comes first: a reserved name or the equality sign.
@@ -93,7 +102,8 @@ impl<'a> Cursor<'a> {
 
     /// Reads a token of a kind.
     pub fn mark(&mut self, kind: Kind) -> Result<(), Stop>
-        ensures { Reads (mark kind self.old) result self.new }
+        ensures reads { Reads (mark kind self.old) result self.new }
+        ensures few { IfOk result (λ _. length self.new < usize.MAX) }
     {
         if !self.is_at(kind) {
             return Err(Stop::Refused(Why::Shape));
@@ -151,6 +161,24 @@ impl<'a> Cursor<'a> {
             return Err(Stop::Refused(Why::Shape));
         }
         Ok(())
+    }
+
+    /// Reads how a part of a conjunction starts, with its left parenthesis.
+    #[tactic(auto, unfolding(crate::specs::Reading::and_then, crate::specs::Reading::start))]
+    pub fn start(&mut self) -> Result<Start, Stop>
+        ensures reads { Reads (start self.old) result self.new }
+        ensures few { IfOk result (λ _. length self.new < usize.MAX) }
+    {
+        self.mark(Kind::LeftParen)?;
+        if self.is_at(Kind::RightParen) {
+            self.pass();
+            return Ok(Start::Nothing);
+        }
+        if self.is_at_word(Kind::Name, b"and") {
+            self.pass();
+            return Ok(Start::And);
+        }
+        Ok(Start::Other)
     }
 
     /// Reads the head of an atom or of a predicate.

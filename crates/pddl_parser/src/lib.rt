@@ -3,7 +3,9 @@
 #![tactic(auto)]
 
 mod cursor;
+mod formulas;
 mod lexer;
+mod nesting;
 mod parse;
 mod refusal;
 mod rules;

@@ -1,39 +1,50 @@
-ghost use Rattle.std.specs.Prelude.{◌≡◌, ◌+◌, ◌≤◌, ℕ, List as Sequence, length, IfOk};
-ghost use Rattle.pddl_parser.specs.Replies.{HasDomain, HasProblem, IsDomainReply, IsProblemReply, IsDomainSpelled, IsProblemSpelled};
+ghost use Rattle.std.specs.Prelude.{◌≡◌, ◌+◌, ◌≤◌, ℕ, List as Sequence, length, All, IfOk};
+ghost use Rattle.pddl_parser.specs.Replies.{HasDomain, HasProblem, IsDomainReply, IsProblemReply, IsDomainSpelled, IsProblemSpelled, IsActionWithin};
 ghost use Rattle.pddl_parser.specs.declared.texts.DomainText.{DomainText as Domain};
 ghost use Rattle.pddl_parser.specs.declared.texts.ProblemText.{ProblemText as Problem};
 
 use crate::cursor::Cursor;
 use crate::lexer::{LONGEST, tokens};
+use crate::nesting::is_shallow;
 use crate::refusal::ParseRefusal;
 use crate::rules::{domain_text, problem_text};
 use crate::texts::{DomainText, ProblemText};
 use std::alloc::Global;
 
-/// Reads a domain, in the form `( define ( domain NAME ) ( :predicates pred* ) )` of PDDL 1.2,
-/// where a predicate is `( HEAD VARIABLE* )`. Letters of either case are read alike.
+/// Reads a domain, in the form `( define ( domain NAME ) ( :predicates pred* ) action* )` of PDDL
+/// 1.2, where a predicate is `( HEAD VARIABLE* )`, and an action `( :action NAME :parameters
+/// ( VARIABLE* ) :precondition formula :effect effect )`. Letters of either case are read alike.
 pub fn domain(alloc: Global, bytes: &[u8]) -> Result<DomainText, ParseRefusal>
     requires { length bytes.now ≤ LONGEST }
     ensures reply { IsDomainReply bytes.now result }
-    ensures short { IfOk result (λ text. length text.predicates ≤ length bytes.now) }
+    ensures short { IfOk result (λ text. length text.predicates + length text.actions ≤ length bytes.now) }
+    ensures short_actions { IfOk result (λ text. All (IsActionWithin (length bytes.now)) text.actions) }
 {
-    let tokens = tokens(alloc, bytes)?;
-    let mut cursor = Cursor::new(bytes, tokens.as_slice());
+    let list = tokens(alloc, bytes)?;
+    let tokens = list.as_slice();
+    if !is_shallow(tokens) {
+        return Err(ParseRefusal::Unsupported(0));
+    }
+    let mut cursor = Cursor::new(bytes, tokens);
     let text = domain_text(alloc, &mut cursor)?;
     cursor.end()?;
     Ok(text)
 }
 
 /// Reads a problem, in the form `( define ( problem NAME ) ( :domain NAME ) ( :objects NAME* )
-/// ( :init gatom* ) ( :goal gatom ) )` of PDDL 1.2, where an atom is `( HEAD NAME* )`. Letters of
-/// either case are read alike.
+/// ( :init gatom* ) ( :goal gformula ) )` of PDDL 1.2, where an atom is `( HEAD NAME* )`, and a
+/// formula is an atom or a conjunction. Letters of either case are read alike.
 pub fn problem(alloc: Global, bytes: &[u8]) -> Result<ProblemText, ParseRefusal>
     requires { length bytes.now ≤ LONGEST }
     ensures reply { IsProblemReply bytes.now result }
-    ensures short { IfOk result (λ text. length text.objects + length text.init ≤ length bytes.now) }
+    ensures short { IfOk result (λ text. length text.objects + length text.init + length text.goal ≤ length bytes.now) }
 {
-    let tokens = tokens(alloc, bytes)?;
-    let mut cursor = Cursor::new(bytes, tokens.as_slice());
+    let list = tokens(alloc, bytes)?;
+    let tokens = list.as_slice();
+    if !is_shallow(tokens) {
+        return Err(ParseRefusal::Unsupported(0));
+    }
+    let mut cursor = Cursor::new(bytes, tokens);
     let text = problem_text(alloc, &mut cursor)?;
     cursor.end()?;
     Ok(text)

@@ -1,26 +1,16 @@
 ghost use Rattle.std.specs.Prelude.{◌≡◌, true, codes};
 ghost use Rattle.pddl_parser.specs.Lexemes.{lower};
-ghost use Rattle.pddl_parser.specs.Reading.{Reads, is_word, any_word, untyped, many, ground_atom, predicate, opening, section_key, section, closed_item, domain, problem};
+ghost use Rattle.pddl_parser.specs.Reading.{Reads, is_word, any_word, untyped, many, in_list, atom_body, atom, change_body, conjunction, predicate, opening, section_key, section, closed_item, part, action_body, action, domain, problem};
 ghost use Rattle.pddl_parser.specs.declared.lexer.Kind.TheVariants.{Name, Variable};
+ghost use Rattle.pddl_parser.specs.declared.formulas.Terms.TheVariants.{Names, NamesAndVariables};
 
 use crate::cursor::Cursor;
+use crate::formulas::{AtomChange, Terms, atom, effect, formula, split_changes};
 use crate::lexer::Kind;
 use crate::stop::Stop;
-use crate::texts::{AtomText, DomainText, PredText, ProblemText, Typed, Word};
+use crate::texts::{ActionText, AtomText, DomainText, PredText, ProblemText, Typed, Word};
 use flag_rules::List;
 use std::alloc::Global;
-
-/// Names, up to the right parenthesis.
-fn names(alloc: Global, cursor: &mut Cursor<'_>) -> Result<List<Word>, Stop>
-    ensures { Reads (many (any_word Name) cursor.old) result cursor.new }
-{
-    let mut words = List::new(alloc);
-    while !cursor.is_at(Kind::RightParen) {
-        words.push(cursor.any_word(alloc, Kind::Name)?)?;
-    }
-    cursor.pass();
-    Ok(words)
-}
 
 /// Names or variables without a type, up to the right parenthesis.
 fn untyped_list(alloc: Global, cursor: &mut Cursor<'_>, kind: Kind) -> Result<List<Typed>, Stop>
@@ -35,24 +25,13 @@ fn untyped_list(alloc: Global, cursor: &mut Cursor<'_>, kind: Kind) -> Result<Li
     Ok(words)
 }
 
-/// `( HEAD NAME* )`
-#[tactic(auto, unfolding(crate::specs::Reading::and_then, crate::specs::Reading::ground_atom))]
-fn ground_atom(alloc: Global, cursor: &mut Cursor<'_>) -> Result<AtomText, Stop>
-    ensures { Reads (ground_atom cursor.old) result cursor.new }
-{
-    cursor.mark(Kind::LeftParen)?;
-    let head = cursor.head(alloc)?;
-    let args = names(alloc, cursor)?;
-    Ok(AtomText { head, args })
-}
-
-/// Atoms, up to the right parenthesis.
+/// Atoms of names, up to the right parenthesis.
 fn ground_atoms(alloc: Global, cursor: &mut Cursor<'_>) -> Result<List<AtomText>, Stop>
-    ensures { Reads (many ground_atom cursor.old) result cursor.new }
+    ensures { Reads (many (atom Names) cursor.old) result cursor.new }
 {
     let mut atoms = List::new(alloc);
     while !cursor.is_at(Kind::RightParen) {
-        atoms.push(ground_atom(alloc, cursor)?)?;
+        atoms.push(atom(alloc, cursor, Terms::Names)?)?;
     }
     cursor.pass();
     Ok(atoms)
@@ -138,21 +117,91 @@ fn objects_section(alloc: Global, cursor: &mut Cursor<'_>) -> Result<List<Typed>
 /// `( :init gatom* )`
 #[tactic(auto, unfolding(crate::specs::Reading::and_then))]
 fn init_section(alloc: Global, cursor: &mut Cursor<'_>) -> Result<List<AtomText>, Stop>
-    ensures { Reads (section (codes ":init") (many ground_atom) cursor.old) result cursor.new }
+    ensures { Reads (section (codes ":init") (many (atom Names)) cursor.old) result cursor.new }
 {
     section_key(cursor, b":init")?;
     ground_atoms(alloc, cursor)
 }
 
-/// `( :goal gatom )`
+/// `( :goal gformula )`
 #[tactic(auto, unfolding(crate::specs::Reading::and_then))]
-fn goal_section(alloc: Global, cursor: &mut Cursor<'_>) -> Result<AtomText, Stop>
-    ensures { Reads (section (codes ":goal") (closed_item ground_atom) cursor.old) result cursor.new }
+fn goal_section(alloc: Global, cursor: &mut Cursor<'_>) -> Result<List<AtomText>, Stop>
+    ensures { Reads (section (codes ":goal") (closed_item (conjunction (atom_body Names))) cursor.old) result cursor.new }
 {
     section_key(cursor, b":goal")?;
-    let goal = ground_atom(alloc, cursor)?;
+    let goal = formula(alloc, cursor, Terms::Names)?;
     cursor.mark(Kind::RightParen)?;
     Ok(goal)
+}
+
+/// `:parameters ( VARIABLE* )`
+#[tactic(auto, unfolding(crate::specs::Reading::and_then))]
+fn parameters_part(alloc: Global, cursor: &mut Cursor<'_>) -> Result<List<Typed>, Stop>
+    ensures { Reads (part (codes ":parameters") (in_list (many (untyped Variable))) cursor.old) result cursor.new }
+{
+    cursor.literal(Kind::Keyword, b":parameters")?;
+    cursor.mark(Kind::LeftParen)?;
+    untyped_list(alloc, cursor, Kind::Variable)
+}
+
+/// `:precondition formula`
+#[tactic(auto, unfolding(crate::specs::Reading::and_then))]
+fn precondition_part(alloc: Global, cursor: &mut Cursor<'_>) -> Result<List<AtomText>, Stop>
+    ensures { Reads (part (codes ":precondition") (conjunction (atom_body NamesAndVariables)) cursor.old) result cursor.new }
+{
+    cursor.literal(Kind::Keyword, b":precondition")?;
+    formula(alloc, cursor, Terms::NamesAndVariables)
+}
+
+/// `:effect effect`
+#[tactic(auto, unfolding(crate::specs::Reading::and_then))]
+fn effect_part(alloc: Global, cursor: &mut Cursor<'_>) -> Result<List<AtomChange>, Stop>
+    ensures { Reads (part (codes ":effect") (conjunction change_body) cursor.old) result cursor.new }
+{
+    cursor.literal(Kind::Keyword, b":effect")?;
+    effect(alloc, cursor)
+}
+
+/// `NAME :parameters ( VARIABLE* ) :precondition formula :effect effect`
+#[tactic(auto, unfolding(crate::specs::Reading::and_then, crate::specs::Reading::action_body))]
+fn action_body(alloc: Global, cursor: &mut Cursor<'_>) -> Result<ActionText, Stop>
+    ensures { Reads (action_body cursor.old) result cursor.new }
+{
+    let name = cursor.any_word(alloc, Kind::Name)?;
+    let params = parameters_part(alloc, cursor)?;
+    let pre = precondition_part(alloc, cursor)?;
+    let changes = effect_part(alloc, cursor)?;
+    let (add, del) = split_changes(alloc, changes)?;
+    Ok(ActionText {
+        name,
+        params,
+        pre,
+        add,
+        del,
+    })
+}
+
+/// `( :action NAME :parameters ( VARIABLE* ) :precondition formula :effect effect )`
+#[tactic(auto, unfolding(crate::specs::Reading::and_then))]
+fn action(alloc: Global, cursor: &mut Cursor<'_>) -> Result<ActionText, Stop>
+    ensures { Reads (action cursor.old) result cursor.new }
+{
+    section_key(cursor, b":action")?;
+    let action = action_body(alloc, cursor)?;
+    cursor.mark(Kind::RightParen)?;
+    Ok(action)
+}
+
+/// Actions, up to the right parenthesis.
+fn actions(alloc: Global, cursor: &mut Cursor<'_>) -> Result<List<ActionText>, Stop>
+    ensures { Reads (many action cursor.old) result cursor.new }
+{
+    let mut actions = List::new(alloc);
+    while !cursor.is_at(Kind::RightParen) {
+        actions.push(action(alloc, cursor)?)?;
+    }
+    cursor.pass();
+    Ok(actions)
 }
 
 /// The text of a domain, with what stands after it left.
@@ -162,14 +211,14 @@ pub fn domain_text(alloc: Global, cursor: &mut Cursor<'_>) -> Result<DomainText,
 {
     let name = opening(alloc, cursor, b"domain")?;
     let predicates = predicates_section(alloc, cursor)?;
-    cursor.mark(Kind::RightParen)?;
+    let actions = actions(alloc, cursor)?;
     Ok(DomainText {
         name,
         requirements: List::new(alloc),
         types: List::new(alloc),
         constants: List::new(alloc),
         predicates,
-        actions: List::new(alloc),
+        actions,
     })
 }
 
@@ -182,8 +231,7 @@ pub fn problem_text(alloc: Global, cursor: &mut Cursor<'_>) -> Result<ProblemTex
     let domain = domain_section(alloc, cursor)?;
     let objects = objects_section(alloc, cursor)?;
     let init = init_section(alloc, cursor)?;
-    let mut goal = List::new(alloc);
-    goal.push(goal_section(alloc, cursor)?)?;
+    let goal = goal_section(alloc, cursor)?;
     cursor.mark(Kind::RightParen)?;
     Ok(ProblemText {
         name,

@@ -15,7 +15,7 @@ loop-alloc-preserved c =
     rw c.in_ok-push.ensures.ok (many-next predicate predicate_shrinks c.loop-alloc.predicates _ _ _ _ c.loop-alloc.invariant (sym c.is_at.ensures ∙ c.loop-alloc-test.true) c.in_ok-predicate.ensures)
 
 pub returns : goal.returns
-returns c = rw c.pass.ensures (many-done predicate predicate_shrinks c.loop-alloc.predicates _ _ c.loop-alloc.invariant (sym c.is_at.ensures ∙ c.loop-alloc-test.false))
+returns c = rw c.pass.ensures.left (many-done predicate predicate_shrinks c.loop-alloc.predicates _ _ c.loop-alloc.invariant (sym c.is_at.ensures ∙ c.loop-alloc-test.false))
 
 pub loop-alloc-smaller : goal.loop-alloc-smaller
 loop-alloc-smaller c = predicate_shrinks _ _ _ c.in_ok-predicate.ensures

@@ -15,4 +15,4 @@ loop-alloc-preserved c =
     rw c.in_ok-push.ensures.ok (many-next (untyped c.args.kind) (untyped_shrinks c.args.kind) c.loop-alloc.words _ _ _ _ c.loop-alloc.invariant (sym c.is_at.ensures ∙ c.loop-alloc-test.true) c.in_ok-untyped.ensures)
 
 pub returns : goal.returns
-returns c = rw c.pass.ensures (many-done (untyped c.args.kind) (untyped_shrinks c.args.kind) c.loop-alloc.words _ _ c.loop-alloc.invariant (sym c.is_at.ensures ∙ c.loop-alloc-test.false))
+returns c = rw c.pass.ensures.left (many-done (untyped c.args.kind) (untyped_shrinks c.args.kind) c.loop-alloc.words _ _ c.loop-alloc.invariant (sym c.is_at.ensures ∙ c.loop-alloc-test.false))
