@@ -1,0 +1,71 @@
+-- What the operations do: a value is the objects of the pointers, a sign, and a state of the instance's ground atoms.
+use Rattle.std.specs.Prelude.{◌≡◌, ℕ, ◌+◌, ◌<◌, ℤ, pos, nat_lt, List, [], ◌∷◌, map, length, slice_get, slice_index, slice_set, slice_index_or, All, Option, Some, None, if◌then◌else◌}
+use Rattle.flag_rules.specs.Flags.{sign_of_int}
+use Rattle.flag_rules.specs.declared.flags.Sign.TheVariants as signs
+use Rattle.program_model.specs.Semantics.{Semantics}
+use Rattle.ground_state.specs.declared.parts.TaskParts.{TaskParts}
+use Rattle.ground_state.specs.State.{State, missing}
+use Rattle.ground_state.specs.Ground.{Ground, IsStateOf}
+use Rattle.ground_state.specs.Action.{is_applicable, acted}
+use Rattle.pointer_machine.specs.declared.form.Form.{Form}
+use Rattle.pointer_machine.specs.declared.form.Form.TheVariants.{Act, Inc}
+use Rattle.pointer_machine.specs.declared.pointing.Pointing.{Pointing}
+use Rattle.pointer_machine.specs.Operations.{operations}
+
+-- the objects that some pointers stand at
+abbrev pub pointed : List ℕ → List ℕ → List ℕ
+pointed pointers args = map (slice_index pointers) args
+
+-- what an operation comes to: the pointers, the state, and its result
+pub record Effect : Type 0 where
+  pub pointers : List ℕ
+  pub atoms : State
+  pub res : ℤ
+
+-- acting where it is applicable, which gives 1, and changes no atom and gives 0 elsewhere; moving a pointer to the next object
+-- where there is one, which gives 1, and leaves it and gives 0 elsewhere
+abbrev pub effect : TaskParts → Ground → Form → List ℕ → State → Effect
+effect task table (Act schema args) pointers atoms = record {
+  pointers = pointers;
+  atoms = acted task table schema (pointed pointers args) atoms;
+  res = pos (if is_applicable task table schema (pointed pointers args) atoms then 1 else 0);
+}
+effect task table (Inc pointer) pointers atoms =
+    if nat_lt (slice_index pointers pointer + 1) (length table.object_types)
+    then record { pointers = slice_set pointers pointer (slice_index pointers pointer + 1); atoms = atoms; res = pos 1 }
+    else record { pointers = pointers; atoms = atoms; res = pos 0 }
+
+-- a value after an effect: the sign is that of the result
+abbrev pub after : Effect → Pointing
+after done = record { pointers = done.pointers; sign = sign_of_int done.res; atoms = done.atoms }
+
+-- a value after an operation, if it is one
+abbrev pub operated : TaskParts → Ground → Option Form → Pointing → Pointing
+operated task table None value = value
+operated task table (Some form) value = after (effect task table form value.pointers value.atoms)
+
+-- the start of an instance: all pointers at object 0, the sign negative, and the initial atoms
+abbrev pub start : Ground → Pointing
+start table = record { pointers = 0 ∷ 0 ∷ 0 ∷ 0 ∷ []; sign = signs.Negative; atoms = table.initial }
+
+-- the table of an instance; a number past the last has one without objects
+abbrev pub table_at : List Ground → ℕ → Ground
+table_at tables t = slice_index_or tables t (record { object_types = []; arities = []; initial = []; goal = [] })
+
+-- the machine over a task, the tables of its instances and so many pointers
+abbrev pub meaning : TaskParts → List Ground → ℕ → Semantics Pointing
+meaning task tables pointers = record {
+  instances = length tables;
+  ops = length (operations task pointers);
+  pointers = pointers;
+  start = λ t. start (table_at tables t);
+  act = λ t op value. operated task (table_at tables t) (slice_get (operations task pointers) op) value;
+  sign = λ (value : Pointing). value.sign;
+  missing = λ t (value : Pointing). missing (table_at tables t).goal value.atoms;
+}
+
+-- the value is one of an instance: a table of pointers, each at an object of it, and a state of its atoms
+pub record IsValueOf (table : Ground) (value : Pointing) : Type 0 where
+  pub pointers : length value.pointers ≡ 4
+  pub objects : All (λ object. object < length table.object_types) value.pointers
+  pub atoms : IsStateOf table value.atoms

@@ -1,0 +1,128 @@
+ghost use Rattle.std.specs.Prelude.{◌≡◌, ◌+◌, ◌<◌, ◌≤◌, All, IfOk, length, map, nat_lt, slice_index, slice_set, take, if◌then◌else◌};
+ghost use Rattle.ground_state.specs.declared.parts.TheConstants.{MAX_PARAMETERS};
+ghost use Rattle.ground_state.specs.Action.{IsTableOf, acted, is_applicable};
+ghost use Rattle.ground_state.specs.Ground.{IsStateOf};
+ghost use Rattle.program_model.specs.declared.machine.TheConstants.{MAX_POINTERS};
+ghost use Rattle.pointer_machine.specs.declared.form.Form.TheVariants as forms;
+ghost use Rattle.pointer_machine.specs.Operations.{IsForm};
+ghost use Rattle.pointer_machine.specs.Meaning.{IsValueOf, after, effect, pointed, start};
+
+use crate::form::Form;
+use flag_rules::{OutOfMemory, Sign, sign_of};
+use ground_state::{AtomTable, Atoms, MAX_PARAMETERS, Task, apply};
+use program_model::MAX_POINTERS;
+use std::alloc::Global;
+
+/// A value of the machine over ground atoms: the object numbers of the pointers, the sign of the last result, and the
+/// atoms that are true. The pointers past those of the machine are 0 at the start, and no operation moves them. Own.
+#[derive(Debug, Drop)]
+pub struct Pointing {
+    pub pointers: [u16; MAX_POINTERS as usize],
+    pub sign: Sign,
+    pub atoms: Atoms,
+}
+
+impl Pointing {
+    /// The start of the instance of a table.
+    pub(crate) fn start(alloc: Global, table: &AtomTable) -> Result<Pointing, OutOfMemory>
+        ensures { IfOk result (λ value. value ≡ start table.now) }
+    {
+        Ok(Pointing {
+            pointers: [0; MAX_POINTERS as usize],
+            sign: Sign::Negative,
+            atoms: Atoms::start(alloc, table)?,
+        })
+    }
+
+    /// Makes this value the start of its instance.
+    pub(crate) fn reset(&mut self, table: &AtomTable)
+        requires { IsValueOf table.now self.old }
+        ensures { self.new ≡ start table.now }
+    {
+        self.pointers = [0; MAX_POINTERS as usize];
+        self.sign = Sign::Negative;
+        self.atoms.reset(table);
+    }
+
+    /// Makes an operation on this value.
+    pub(crate) fn operate(&mut self, task: &Task, table: &AtomTable, form: &Form)
+        requires table { IsTableOf task.now table.now }
+        requires value { IsValueOf table.now self.old }
+        requires form { IsForm task.now MAX_POINTERS form.now }
+        ensures done { self.new ≡ after (effect task.now table.now form.now self.old.pointers self.old.atoms) }
+        ensures value { IsValueOf table.now self.new }
+    {
+        let res = self.take_effect(task, table, form);
+        self.sign = sign_of(res);
+    }
+
+    /// Makes all of an operation but for its sign, and gives its result.
+    fn take_effect(&mut self, task: &Task, table: &AtomTable, form: &Form) -> i64
+        requires table { IsTableOf task.now table.now }
+        requires value { IsValueOf table.now self.old }
+        requires form { IsForm task.now MAX_POINTERS form.now }
+        ensures res { result
+            ≡ (effect task.now table.now form.now self.old.pointers self.old.atoms).res }
+        ensures pointers { self.new.pointers
+            ≡ (effect task.now table.now form.now self.old.pointers self.old.atoms).pointers }
+        ensures atoms { self.new.atoms
+            ≡ (effect task.now table.now form.now self.old.pointers self.old.atoms).atoms }
+        ensures value { IsValueOf table.now self.new }
+    {
+        match form {
+            Form::Act { schema, args } => {
+                i64::from(self.act_at(task, table, *schema, args.as_slice()))
+            }
+            Form::Inc(pointer) => i64::from(self.move_on(*pointer, table.objects())),
+        }
+    }
+
+    /// Acts by a schema at the objects that some pointers stand at, where that is applicable, and says whether it was.
+    fn act_at(&mut self, task: &Task, table: &AtomTable, schema: u32, args: &[u8]) -> bool
+        requires table { IsTableOf task.now table.now }
+        requires value { IsValueOf table.now self.old }
+        requires form { IsForm task.now MAX_POINTERS (forms.Act schema args.now) }
+        requires few { length args.now ≤ MAX_PARAMETERS }
+        ensures applicable { result
+            ≡ is_applicable task.now table.now schema (pointed self.old.pointers args.now) self.old.atoms }
+        ensures pointers { self.new.pointers ≡ self.old.pointers }
+        ensures atoms { self.new.atoms
+            ≡ acted task.now table.now schema (pointed self.old.pointers args.now) self.old.atoms }
+        ensures fits { IsStateOf table.now self.new.atoms }
+    {
+        let objects = self.pointed(args);
+        apply(task, table, schema, &objects[..args.len()], &mut self.atoms)
+    }
+
+    /// The objects that some pointers stand at, in the first places of an array.
+    fn pointed(&self, args: &[u8]) -> [u16; MAX_PARAMETERS]
+        requires few { length args.now ≤ MAX_PARAMETERS }
+        requires known { All (λ pointer. pointer < length self.now.pointers) args.now }
+        ensures { take (length args.now) result ≡ pointed self.now.pointers args.now }
+    {
+        let mut objects = [0; MAX_PARAMETERS];
+        for (place, pointer) in args.iter().enumerate() {
+            objects[place] = self.pointers[usize::from(*pointer)];
+        }
+        objects
+    }
+
+    /// Moves a pointer to the next object, where there is one, and says whether it moved.
+    fn move_on(&mut self, pointer: u8, objects: u16) -> bool
+        requires pointer { pointer < length self.old.pointers }
+        requires object { slice_index self.old.pointers pointer < objects }
+        ensures moved { result ≡ nat_lt (slice_index self.old.pointers pointer + 1) objects }
+        ensures pointers { self.new.pointers ≡ (if result
+            then slice_set self.old.pointers pointer (slice_index self.old.pointers pointer + 1)
+            else self.old.pointers) }
+        ensures sign { self.new.sign ≡ self.old.sign }
+        ensures atoms { self.new.atoms ≡ self.old.atoms }
+    {
+        let object = &mut self.pointers[usize::from(pointer)];
+        if *object + 1 == objects {
+            return false;
+        }
+        *object += 1;
+        true
+    }
+}
