@@ -1,0 +1,8 @@
+pub mod Covers
+pub mod Standings
+pub mod Progress
+pub mod Search
+pub mod Answers
+pub mod Accepted
+pub mod Nodes
+pub mod Filling

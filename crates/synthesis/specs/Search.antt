@@ -1,0 +1,176 @@
+-- The search at one size: its nodes are partial programs; a split puts the children of the best waiting node behind it.
+-- All runs are those from the first configuration.
+use Rattle.std.specs.Prelude.{◌≡◌, ℕ, ◌+◌, ◌<◌, ◌≤◌, ◌==◌, nat_lt, Bool, true, false, MatchBool, List, [], ◌∷◌, ◌++◌, length, take, drop, slice_get, All, Option, Some, None, is_some, if◌then◌else◌}
+use Rattle.std.specs.List.{list_any}
+use Rattle.program_model.specs.declared.instr.Instr.{Instr}
+use Rattle.program_model.specs.Alphabet.{alphabet}
+use Rattle.program_model.specs.Semantics.{Semantics}
+use Rattle.program_model.specs.Program.{Program, empty, with_line}
+use Rattle.program_model.specs.Standing.{Standing, ended, unmet, waits, loops, at_limit}
+use Rattle.program_model.specs.Verdict.{Stood, AreStood, Verdict, refused, limited, waiting, solved, verdict}
+use Rattle.synthesis.specs.declared.evidence.Mark.{Mark}
+use Rattle.synthesis.specs.declared.evidence.Mark.TheVariants as marks
+use Rattle.synthesis.specs.Covers.{Skips, nobody}
+
+-- what a search is over: a machine, the limit of steps of a run, the key of a waiting node by its program and its runs, and
+-- which children are passed over
+pub record Setting (C : Type 0) : Type 0 where
+  pub machine : Semantics C
+  pub limit : ℕ
+  pub key_of : Program → List Stood → List ℕ
+  pub skips : Skips
+
+-- the search in which every key is empty and no child is passed over
+abbrev pub plain : {C : Type 0} → Semantics C → ℕ → Setting C
+plain m limit = record { machine = m; limit = limit; key_of = λ q runs. []; skips = nobody }
+
+-- what became of a node: judged by its runs; split at a line, as the split of a stamp; or passed over as a twin
+pub data State : Type 0 where
+  judged : Verdict → State
+  split : ℕ → ℕ → State
+  twin : State
+
+-- a node: its number, its partial program, its state, and its key
+pub record Node : Type 0 where
+  pub number : ℕ
+  pub program : Program
+  pub state : State
+  pub key : List ℕ
+
+-- the node is judged by the verdict on its program's runs, and has their key
+pub record IsJudged {C : Type 0} (s : Setting C) (node : Node) : Type 0 where
+  pub runs : List Stood
+  pub stood : AreStood s.machine node.program s.limit runs
+  pub state : node.state ≡ judged (verdict runs)
+  pub key : node.key ≡ s.key_of node.program runs
+
+-- the root of a size: the empty program of so many lines, as node 0
+pub record IsRoot {C : Type 0} (s : Setting C) (size : ℕ) (node : Node) : Type 0 where
+  pub number : node.number ≡ 0
+  pub program : node.program ≡ empty size
+  pub is_judged : IsJudged s node
+
+-- a child: its parent's program with an instruction on the line that is split; it is passed over, or judged
+pub record IsChild {C : Type 0} (s : Setting C) (parent : Program) (line number : ℕ) (instr : Instr) (node : Node) : Type 0 where
+  pub numbered : node.number ≡ number
+  pub program : node.program ≡ with_line parent line instr
+  pub state : MatchBool (s.skips parent instr) ((node.state ≡ twin) × (node.key ≡ [])) (IsJudged s node)
+
+-- the children of a split: one for each instruction, in order, with the numbers from one on
+abbrev pub AreChildren : {C : Type 0} → Setting C → Program → ℕ → ℕ → List Instr → List Node → Type 0
+AreChildren s parent line number [] [] = Unit {0}
+AreChildren s parent line number (instr ∷ instrs) (node ∷ nodes) = IsChild s parent line number instr node × AreChildren s parent line (number + 1) instrs nodes
+AreChildren s parent line number _ _ = ⊥
+
+-- the line at which a node waits to be split, if it does
+abbrev pub waits_at : State → Option ℕ
+waits_at (judged (refused x)) = None
+waits_at (judged (limited t)) = None
+waits_at (judged (waiting line)) = Some line
+waits_at (judged solved) = None
+waits_at (split line stamp) = None
+waits_at twin = None
+
+abbrev pub is_waiting : Node → Bool
+is_waiting node = is_some (waits_at node.state)
+
+-- keys go entry by entry, the lesser first, and a key before those that it begins; of equal keys the lesser number is first
+abbrev pub comes_before : List ℕ → ℕ → List ℕ → ℕ → Bool
+comes_before [] number [] other = nat_lt number other
+comes_before [] number (second ∷ seconds) other = true
+comes_before (first ∷ firsts) number [] other = false
+comes_before (first ∷ firsts) number (second ∷ seconds) other = if first == second then comes_before firsts number seconds other else nat_lt first second
+
+-- one split: of the nodes that wait, the one with the least key and number is split at its line, and its children, with
+-- the next numbers, stand behind it
+pub record Splits {C : Type 0} (s : Setting C) (stamp : ℕ) (old new : List Node) : Type 0 where
+  pub place : ℕ
+  pub node : Node
+  pub line : ℕ
+  pub made : List Node
+  pub here : slice_get old place ≡ Some node
+  pub waits : node.state ≡ judged (waiting line)
+  pub least : All (λ (other : Node). is_waiting other ≡ true → comes_before other.key other.number node.key node.number ≡ false) old
+  pub children : AreChildren s node.program line (length old) (alphabet s.machine.ops (length node.program) line) made
+  pub after : new ≡ take place old ++ (record node { state = split line stamp } ∷ made) ++ drop (place + 1) old
+
+-- how a size is closed: a program is found, a run is at the limit on an instance, the budget of splits is spent, or every
+-- node that waits was split
+pub data Close : Type 0 where
+  found : Program → Close
+  run_spent : ℕ → Close
+  budget_spent : Close
+  refuted : Close
+
+-- the program of a node that is solved
+abbrev pub solved_program : State → Program → Option Program
+solved_program (judged (refused x)) q = None
+solved_program (judged (limited t)) q = None
+solved_program (judged (waiting line)) q = None
+solved_program (judged solved) q = Some q
+solved_program (split line stamp) q = None
+solved_program twin q = None
+
+-- the instance on which a node is at the limit
+abbrev pub limited_at : State → Option ℕ
+limited_at (judged (refused x)) = None
+limited_at (judged (limited t)) = Some t
+limited_at (judged (waiting line)) = None
+limited_at (judged solved) = None
+limited_at (split line stamp) = None
+limited_at twin = None
+
+-- a value, or another where there is none
+abbrev pub or_else : {A : Type 0} → Option A → Option A → Option A
+or_else (Some a) other = Some a
+or_else None other = other
+
+-- the program of the first node that is solved
+abbrev pub first_solved : List Node → Option Program
+first_solved [] = None
+first_solved (node ∷ nodes) = or_else (solved_program node.state node.program) (first_solved nodes)
+
+-- the instance of the first node that is at the limit
+abbrev pub first_limited : List Node → Option ℕ
+first_limited [] = None
+first_limited (node ∷ nodes) = or_else (limited_at node.state) (first_limited nodes)
+
+-- after so many splits the size is closed so; a budget bounds the splits of all sizes together
+abbrev pub Closes : ℕ → ℕ → List Node → Close → Type 0
+Closes budget stamp nodes (found q) = first_solved nodes ≡ Some q
+Closes budget stamp nodes (run_spent t) = (first_solved nodes ≡ None) × (first_limited nodes ≡ Some t)
+Closes budget stamp nodes budget_spent = (first_solved nodes ≡ None) × (first_limited nodes ≡ None) × (list_any is_waiting nodes ≡ true) × (budget ≤ stamp)
+Closes budget stamp nodes refuted = (first_solved nodes ≡ None) × (first_limited nodes ≡ None) × (list_any is_waiting nodes ≡ false)
+
+-- after so many splits the size is not closed: no node is solved or at its limit, one waits, and the budget is not spent
+abbrev pub StaysOpen : ℕ → ℕ → List Node → Type 0
+StaysOpen budget stamp nodes = (first_solved nodes ≡ None) × (first_limited nodes ≡ None) × (list_any is_waiting nodes ≡ true) × (stamp < budget)
+
+-- splits lead from one list of nodes to another, with their stamps in a row, and the size is not closed before any of them
+pub data Leads {C : Type 0} (s : Setting C) (budget from : ℕ) (start : List Node) : ℕ → List Node → Type 0 where
+  here : Leads s budget from start from start
+  next : (stamp : ℕ) (nodes after : List Node) → Leads s budget from start stamp nodes → StaysOpen budget stamp nodes → Splits s stamp nodes after → Leads s budget from start (stamp + 1) after
+
+-- the search of a size, from its root to the first nodes at which it is closed; the stamps run on from one number to another
+pub record SearchesSize {C : Type 0} (s : Setting C) (budget size from to : ℕ) (nodes : List Node) (close : Close) : Type 0 where
+  pub root : Node
+  pub is_root : IsRoot s size root
+  pub leads : Leads s budget from (root ∷ []) to nodes
+  pub closes : Closes budget to nodes close
+
+-- how a node is marked that the run on an instance refuses
+abbrev pub refusal_mark : ℕ → ℕ → Standing → Mark
+refusal_mark t steps unmet = marks.Unmet t steps
+refusal_mark t steps (loops i j) = marks.Loops t i j
+refusal_mark t steps ended = marks.Solved
+refusal_mark t steps (waits line) = marks.Waiting
+refusal_mark t steps at_limit = marks.AtLimit t
+
+-- how a node is marked in the tree of its size
+abbrev pub mark_of : State → Mark
+mark_of (judged (refused x)) = refusal_mark x.instance x.steps x.standing
+mark_of (judged (limited t)) = marks.AtLimit t
+mark_of (judged (waiting line)) = marks.Waiting
+mark_of (judged solved) = marks.Solved
+mark_of (split line stamp) = marks.Split line stamp
+mark_of twin = marks.Twin
