@@ -1,5 +1,5 @@
 -- Steps of a job, one after another, as the code answers them.
-use Rattle.std.proofs.Common.{◌≡◌, ℕ, ◌≤◌, List, Option, Some, None, Result, Ok, Err, arith}
+use Rattle.std.proofs.Common.{◌≡◌, ℕ, ◌≤◌, List, Option, Some, None, Result, Ok, Err, subst, arith}
 use Rattle.bfgp_outside.specs.Shelf.{Files, Knowing}
 use Rattle.bfgp_outside.specs.Causes.{Rose}
 use Rattle.bfgp_tool.specs.declared.reply.Reply.{Reply}
@@ -28,6 +28,10 @@ then_end step next OutOfMemory here = tt
 pub knowing : (told : Option Files) (P Q : Files → Type 0) → ((files : Files) → P files → Q files) → Knowing told P → Knowing told Q
 knowing (Some files) P Q goes p = goes files p
 knowing None P Q goes p = tt
+
+-- a shelf that tells what it told before
+pub knowing_same : {told later : Option Files} (P : Files → Type 0) → later ≡ told → Knowing later P → Knowing told P
+knowing_same P kept known = subst (λ (o : Option Files). Knowing o P) kept known
 
 pub knowing_both : (told : Option Files) (P Q R : Files → Type 0) → ((files : Files) → P files → Q files → R files) → Knowing told P → Knowing told Q → Knowing told R
 knowing_both (Some files) P Q R goes p q = goes files p q

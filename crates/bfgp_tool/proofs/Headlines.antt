@@ -1,65 +1,51 @@
 -- From the reply that is due to the headline.
-use Rattle.std.proofs.Common.{◌≡◌, ◌≢◌, ℕ, zero, suc, ◌≤◌, List, [], ◌∷◌, Option, Some, None, Result, Ok, Err, refl, sym, ◌∙◌, ap, subst, arith}
-use Rattle.std.specs.Prelude.{Contains, option_and_then, slice_get, IsSomeAnd, nat_lt, if◌then◌else◌, ◌==◌, length, Bool, true, false}
-use Rattle.std.proofs.lemmas.Bool.Decides.{nat_tests}
+use Rattle.std.proofs.Common.{◌≡◌, ℕ, zero, suc, ◌+◌, List, [], ◌∷◌, length, map, slice_get, Option, Some, None, Result, Ok, Err, Bool, true, false, nat_lt, if◌then◌else◌, IsSomeAnd, refl, sym, ◌∙◌, ap, subst, arith}
+use Rattle.std.specs.List.{AllZip}
 use Rattle.bfgp_outside.specs.Shelf.{Files}
 use Rattle.bfgp_outside.specs.Sink.{Appends}
 use Rattle.bfgp_outside.specs.Whole.{whole_of}
 use Rattle.bfgp_outside.specs.declared.whole.ReadRefusal.TheVariants.{TooLong}
-use Rattle.ground_state.specs.declared.parts.TaskParts.{TaskParts}
+use Rattle.pddl_parser.specs.Replies.{HasDomain, IsDomainReply, IsProblemReply}
 use Rattle.ground_state.specs.declared.parts.InstanceParts.{InstanceParts}
-use Rattle.ground_state.specs.declared.parts.Fact.{Fact}
 use Rattle.ground_state.specs.Instance.{IsInstance}
-use Rattle.ground_state.specs.State.{missing}
 use Rattle.ground_state.specs.Ground.{Ground, ground_of}
-use Rattle.ground_state.proofs.MetGoals.{listed_where_met, not_listed_where_unmet}
+use Rattle.program_model.specs.Semantics.{Semantics}
+use Rattle.pointer_machine.specs.declared.pointing.Pointing.{Pointing}
+use Rattle.pointer_machine.specs.Meaning.{meaning}
+use Rattle.pointer_machine.specs.Texts.{operation_texts}
+use Rattle.pointer_machine.proofs.Counts.{length-operations}
+use Rattle.synthesis.specs.declared.limits.TheConstants.{BUDGET, RUN_LIMIT}
+use Rattle.synthesis.specs.declared.evidence.Answer.{Answer}
+use Rattle.synthesis.specs.declared.evidence.Outcome.{Outcome}
+use Rattle.synthesis.specs.declared.evidence.Outcome.TheVariants as outcomes
+use Rattle.synthesis.specs.Covers.{nobody}
+use Rattle.synthesis.specs.Search.{Setting, plain, Close, found as program_found, run_spent, budget_spent, refuted as size_refuted}
+use Rattle.synthesis.specs.Answers.{IsAnswer, Concludes, Searches, closed, nothing as none_found}
+use Rattle.synthesis.specs.Accepted.{IsShown, IsAccepted, ShowsLeast, NoneSolves}
+use Rattle.synthesis.proofs.Covering.{nobody_is_fair}
+use Rattle.synthesis.proofs.Holding.{shown_least, shown_none}
+use Rattle.synthesis.proofs.Accepting.{searched_accepted}
 use Rattle.bfgp_tool.specs.declared.domain_reading.Domain.{Domain}
+use Rattle.bfgp_tool.specs.declared.fault.Fault.{Fault}
+use Rattle.bfgp_tool.specs.declared.input.TheConstants.{MAX_INPUT_BYTES}
 use Rattle.bfgp_tool.specs.declared.job.Job.{Job}
 use Rattle.bfgp_tool.specs.declared.reply.Reply.{Reply}
 use Rattle.bfgp_tool.specs.declared.status.Status.{Status}
 use Rattle.bfgp_tool.specs.declared.status.Status.TheVariants.{Done, No, Usage, Input, SpentExpansions, SpentRun, ReadFault, WriteFault, OutOfMemory}
-use Rattle.bfgp_tool.specs.Steps.{◌>>=◌, goes_on, ends, or_tell, pure}
-use Rattle.pddl_parser.specs.Replies.{IsDomainReply, IsProblemReply}
-use Rattle.bfgp_tool.specs.declared.fault.Fault.{Fault}
-use Rattle.bfgp_tool.specs.Words.{JobOf}
-use Rattle.bfgp_tool.specs.Faults.{reading_fault, parsing_fault, numbering_fault, ground_fault, fault_reply}
-use Rattle.bfgp_tool.specs.Numbering.{InstanceOf, IsTaskReply, IsInstanceReply}
-use Rattle.bfgp_tool.specs.Grounding.{IsGroundReply}
-use Rattle.bfgp_tool.specs.Due.{Due, answer, fault, usage, file_due, synth_due, domain_due, answer_due, one_line_reply, IsWhole}
-use Rattle.bfgp_tool.proofs.Sequels.{after_task, after_domain_text, after_table, after_instance, after_problem_text, after_domain, after_domain_bytes}
-use Rattle.bfgp_tool.specs.Programs.{Program, End, IsProgram, Solves, Config, at, first, step}
-use Rattle.bfgp_tool.specs.Document.{solved_document, refuted_document}
-use Rattle.bfgp_tool.specs.Headline.{Headline, FindsLeast, RefutesAll, Poses}
+use Rattle.bfgp_tool.specs.Faults.{reading_fault, parsing_fault, numbering_fault, ground_fault, machine_fault, fault_reply}
+use Rattle.bfgp_tool.specs.Steps.{◌>>=◌, goes_on, ends, or_tell}
+use Rattle.bfgp_tool.specs.Numbering.{TaskOf, IsTaskReply, IsInstanceReply}
+use Rattle.bfgp_tool.specs.Grounding.{IsGroundReply, IsCountReply}
+use Rattle.bfgp_tool.specs.Document.{document}
+use Rattle.bfgp_tool.specs.Due.{Due, answer, fault, usage, IsWhole, file_due, domain_due, table_due, tables_due, synth_due, status_of}
 use Rattle.bfgp_tool.specs.Answers.{Writes}
-use Rattle.bfgp_tool.proofs.Validity.{instance_fits}
+use Rattle.bfgp_tool.specs.Headline.{Headline, HoldsInstance, Poses, machine_of, FindsLeast, RefutesAll}
+use Rattle.bfgp_tool.proofs.Sequels.{after_task, after_domain_text, after_problem_text, after_instance, after_table, after_instance_bytes, after_count, after_tables, after_domain, after_domain_bytes}
 use Rattle.bfgp_tool.proofs.SpelledNames.{objects_are_names}
+use Rattle.bfgp_tool.proofs.Validity.{instance_fits}
+use Rattle.bfgp_tool.proofs.GoalRuns.{solves_each, solves_all, ends_each}
 
--- a program of one line is `end`, and its run has no second configuration
-one_step : (instance : InstanceParts) (steps : ℕ) → at (End ∷ []) instance (suc steps) ≡ None
-one_step instance zero = refl
-one_step instance (suc steps) = ap (λ (o : Option Config). option_and_then (λ (config : Config). option_and_then (λ instruction. step instruction config) (slice_get (End ∷ []) config.line)) o) (one_step instance steps)
-
--- a run of `end` stands in the state of the start
-end_stays : (instance : InstanceParts) (steps : ℕ) (config : Config) → at (End ∷ []) instance steps ≡ Some config → first instance ≡ config
-end_stays instance zero config comes = cc
-end_stays instance (suc steps) config comes = let none = one_step instance steps in absurd (cc)
-
--- a program of at most one line is `end`
-only_end : (lines : ℕ) (program : Program) → lines ≤ 1 → IsProgram lines program → program ≡ End ∷ []
-only_end lines [] few is = let some = is.some in let count = is.count in absurd (omega arith)
-only_end lines (End ∷ []) few is = refl
-only_end lines (one ∷ other ∷ more) few is = let count = is.count in absurd (omega arith)
-
-end_is_program : IsProgram 1 (End ∷ [])
-end_is_program = record { some = omega arith; count = refl; last = refl; others = λ line before. absurd (omega (arith, before)) }
-
--- where a fact of the goal is not true at the start, no program of at most one line solves
-none_solves : (instance : InstanceParts) (fact : Fact) → Contains instance.goal fact → ¬ Contains instance.init fact → (lines : ℕ) (program : Program) → lines ≤ 1 → IsProgram lines program → Solves program instance → ⊥
-none_solves instance fact wanted lacking lines program few is solves =
-    let by_end : Solves (End ∷ []) instance = subst (λ (p : Program). Solves p instance) (only_end lines program few is) solves in
-    let stays = end_stays instance by_end.steps by_end.config by_end.comes in
-    lacking (subst (λ (c : Config). Contains c.atoms fact) (sym stays) (by_end.met fact wanted))
-
+-- ---- a reply without a fault is an answer
 -- a file that was read whole is held
 whole_held : (held : Option (List ℕ)) (limit : ℕ) (bytes : List ℕ) → Ok bytes ≡ whole_of held limit → held ≡ Some bytes
 whole_held None limit bytes read = absurd (cc)
@@ -69,42 +55,56 @@ whole_held (Some file) limit bytes read = by_test (nat_lt limit (length file)) r
     by_test true cut = absurd (cc)
     by_test false all = cc
 
--- a reply of `synth` that is an answer: the instance that is posed, and its table
-record Answered (words : List (List ℕ)) (files : Files) (reply : Reply) : Type 0 where
-  posed_instance : InstanceParts
-  task : TaskParts
-  fits : IsInstance task posed_instance
-  posed : Poses words files posed_instance
-  is : reply ≡ one_line_reply (ground_of task posed_instance)
+-- a domain that was read and numbered
+record Numbered (bytes : List ℕ) (domain : Domain) : Type 0 where
+  reads : HasDomain bytes domain.text
+  task_is : TaskOf domain.text domain.task
 
--- the answer of a job, step by step
-from_steps : (words : List (List ℕ)) (files : Files) (job : Job) (bytes more : List ℕ) (domain : Domain) (reply : Reply) → JobOf words job → file_due files job.domain (Ok bytes) → domain_due job.domain bytes (Ok domain) → file_due files job.instance (Ok more) → answer_due job.instance domain more (Ok reply) → Answered words files reply
-from_steps words files job bytes more domain reply job_is read (goes_on {a = text} text_is (goes_on {a = task} task_is made)) read_more (goes_on {a = problem} problem_is (goes_on {a = instance} instance_is (goes_on {a = table} table_is answer_is))) =
-    let domain_is : domain ≡ record { text = text; task = task } = cc in
-    let instance_of : InstanceOf text problem instance = subst (λ (d : Domain). InstanceOf d.text problem instance) domain_is instance_is in
-    let table_of : table ≡ ground_of task instance = subst (λ (d : Domain). table ≡ ground_of d.task instance) domain_is table_is.0 in
-    let reply_is : reply ≡ one_line_reply table = cc in
+domain_numbered : (name bytes : List ℕ) (domain : Domain) → domain_due name bytes (Ok domain) → Numbered bytes domain
+domain_numbered name bytes domain (goes_on {a = text} text_is (goes_on {a = task} task_is made)) =
+    let is : record { text = text; task = task } ≡ domain = cc in
+    subst (Numbered bytes) is (record { reads = text_is; task_is = task_is })
+
+-- instance files that were read: they hold instances, and the tables are those of the instances
+record HeldTables (files : Files) (domain : Domain) (names : List (List ℕ)) (tables : List Ground) : Type 0 where
+  instances : List InstanceParts
+  held : AllZip (HoldsInstance files domain.text) names instances
+  made : tables ≡ map (ground_of domain.task) instances
+  fit : (t : ℕ) (instance : InstanceParts) → slice_get instances t ≡ Some instance → IsInstance domain.task instance
+
+tables_held : (files : Files) (domain : Domain) (names : List (List ℕ)) (tables : List Ground) → TaskOf domain.text domain.task → tables_due files domain names (Ok tables) → HeldTables files domain names tables
+tables_held files domain [] tables task_is made = record { instances = []; held = tt; made = cc; fit = λ t instance here. absurd (cc) }
+tables_held files domain (name ∷ names) tables task_is (goes_on {a = bytes} read (goes_on {a = table} (goes_on {a = problem} problem_is (goes_on {a = instance} instance_is table_is)) (goes_on {a = others} others_are made))) =
+    let rest = tables_held files domain names others task_is others_are in
+    let all : tables ≡ table ∷ others = cc in
+    let fits = instance_fits domain.text problem domain.task instance task_is instance_is (objects_are_names bytes problem problem_is) in
     record {
-      posed_instance = instance;
-      task = task;
-      fits = instance_fits text problem task instance task_is instance_of (objects_are_names more problem problem_is);
-      posed = record {
-        job = job;
-        job_is = job_is;
-        domain_bytes = bytes;
-        domain_held = whole_held (files job.domain) 1048576 bytes read;
-        domain = text;
-        domain_reads = text_is;
-        task = task;
-        task_is = task_is;
-        instance_bytes = more;
-        instance_held = whole_held (files job.instance) 1048576 more read_more;
-        problem = problem;
-        problem_reads = problem_is;
-        instance_is = instance_of;
-      };
-      is = reply_is ∙ ap one_line_reply table_of;
+      instances = instance ∷ rest.instances;
+      held = (
+        record {
+          bytes = bytes;
+          held = whole_held (files name) MAX_INPUT_BYTES bytes read;
+          problem = problem;
+          reads = problem_is;
+          instance_is = instance_is;
+        },
+        rest.held,
+      );
+      made = all ∙ ap (λ (t : Ground). t ∷ others) table_is.0 ∙ ap (λ (l : List Ground). ground_of domain.task instance ∷ l) rest.made;
+      fit = each instance fits rest.instances rest.fit;
     }
+  where
+    each : (first : InstanceParts) → IsInstance domain.task first → (rest : List InstanceParts) → ((t : ℕ) (instance : InstanceParts) → slice_get rest t ≡ Some instance → IsInstance domain.task instance) → (t : ℕ) (instance : InstanceParts) → slice_get (first ∷ rest) t ≡ Some instance → IsInstance domain.task instance
+    each first fits rest fit zero instance here = let is : first ≡ instance = cc in subst (IsInstance domain.task) is fits
+    each first fits rest fit (suc t) instance here = fit t instance here
+
+-- a reply of `synth` that is an answer: what is posed, and the search's answer on it
+record Answered (words : List (List ℕ)) (files : Files) (reply : Reply) : Type 0 where
+  posed : Poses words files
+  fit : (t : ℕ) (instance : InstanceParts) → slice_get posed.instances t ≡ Some instance → IsInstance posed.task instance
+  found : Answer
+  is_answer : IsAnswer (plain (machine_of posed.task posed.instances posed.job.pointers) RUN_LIMIT) BUDGET posed.job.lines found
+  is : reply ≡ record { status = status_of found.outcome; text = document (operation_texts posed.task posed.job.pointers) found }
 
 -- a step that ended the job told a fault
 told_input : {A E : Type 0} (name : List ℕ) (fault_of : E → Option Fault) (Allowed : Result A E → Type 0) (reply : Reply) → or_tell name fault_of Allowed (Err reply) → reply.status ≡ Input
@@ -118,90 +118,144 @@ then_input : {A B : Type 0} (step : Result A Reply → Type 0) (next : A → Res
 then_input step next reply here later (goes_on {a = a} was after) = later a reply after
 then_input step next reply here later (ends ended) = here reply ended
 
-pure_input : {A : Type 0} (a : A) (reply : Reply) → pure a (Err reply) → reply.status ≡ Input
-pure_input a reply made = absurd (cc)
-
 domain_input : (name bytes : List ℕ) (reply : Reply) → domain_due name bytes (Err reply) → reply.status ≡ Input
 domain_input name bytes reply =
     then_input (or_tell name parsing_fault (IsDomainReply bytes)) (after_domain_text name) reply (told_input name parsing_fault (IsDomainReply bytes)) (λ text r.
     then_input (or_tell name numbering_fault (IsTaskReply text)) (after_task text) r (told_input name numbering_fault (IsTaskReply text)) (λ task q made. absurd (cc)))
 
-answer_input : (name : List ℕ) (domain : Domain) (bytes : List ℕ) (reply : Reply) → answer_due name domain bytes (Err reply) → reply.status ≡ Input
-answer_input name domain bytes reply =
+table_input : (name : List ℕ) (domain : Domain) (bytes : List ℕ) (reply : Reply) → table_due name domain bytes (Err reply) → reply.status ≡ Input
+table_input name domain bytes reply =
     then_input (or_tell name parsing_fault (IsProblemReply bytes)) (after_problem_text name domain) reply (told_input name parsing_fault (IsProblemReply bytes)) (λ text r.
     then_input (or_tell name numbering_fault (IsInstanceReply domain.text text)) (after_instance name domain) r (told_input name numbering_fault (IsInstanceReply domain.text text)) (λ instance q.
-    then_input (or_tell name ground_fault (IsGroundReply domain.task instance)) after_table q (told_input name ground_fault (IsGroundReply domain.task instance)) (λ table p made. absurd (cc))))
+    told_input name ground_fault (IsGroundReply domain.task instance) q))
 
-synth_input : (files : Files) (domain_name instance_name : List ℕ) (reply : Reply) → synth_due files domain_name instance_name (Err reply) → reply.status ≡ Input
-synth_input files domain_name instance_name reply =
-    then_input (file_due files domain_name) (after_domain_bytes files domain_name instance_name) reply (told_input domain_name reading_fault (IsWhole files domain_name)) (λ bytes r.
-    then_input (domain_due domain_name bytes) (after_domain files instance_name) r (domain_input domain_name bytes) (λ domain q.
-    then_input (file_due files instance_name) (answer_due instance_name domain) q (told_input instance_name reading_fault (IsWhole files instance_name)) (λ more p. answer_input instance_name domain more p)))
+tables_input : (files : Files) (domain : Domain) (names : List (List ℕ)) (reply : Reply) → tables_due files domain names (Err reply) → reply.status ≡ Input
+tables_input files domain [] reply made = absurd (cc)
+tables_input files domain (name ∷ names) reply ended =
+    then_input (file_due files name) (after_instance_bytes files domain name names) reply (told_input name reading_fault (IsWhole files name)) (λ bytes r.
+    then_input (table_due name domain bytes) (after_table files domain names) r (table_input name domain bytes) (λ table q.
+    then_input (tables_due files domain names) (λ tables. λ result. result ≡ Ok (table ∷ tables)) q (tables_input files domain names) (λ tables p made. absurd (cc)))) ended
+
+synth_input : (files : Files) (job : Job) (reply : Reply) → synth_due files job (Err reply) → reply.status ≡ Input
+synth_input files job reply =
+    then_input (file_due files job.domain) (after_domain_bytes files job) reply (told_input job.domain reading_fault (IsWhole files job.domain)) (λ bytes r.
+    then_input (domain_due job.domain bytes) (after_domain files job) r (domain_input job.domain bytes) (λ domain q.
+    then_input (tables_due files domain job.instances) (after_tables job domain) q (tables_input files domain job.instances) (λ tables p.
+    then_input (or_tell job.domain machine_fault (IsCountReply domain.task job.pointers)) (after_count job domain tables) p (told_input job.domain machine_fault (IsCountReply domain.task job.pointers)) (λ counted o none. absurd none))))
 
 -- a reply with the status of an answer is one
 answered : (words : List (List ℕ)) (files : Files) (reply : Reply) → ((reply.status ≡ Input) → ⊥) → ((reply.status ≡ Usage) → ⊥) → Due words files reply → Answered words files reply
-answered words files reply no_input no_usage (answer job job_is (goes_on {a = bytes} read (goes_on {a = domain} domain_is (goes_on {a = more} read_more answer_is)))) = from_steps words files job bytes more domain reply job_is read domain_is read_more answer_is
-answered words files reply no_input no_usage (fault job job_is here) = absurd (no_input (synth_input files job.domain job.instance reply here))
+answered words files reply no_input no_usage (answer job job_is (goes_on {a = bytes} read (goes_on {a = domain} domain_is (goes_on {a = tables} tables_are (goes_on {a = counted} few found))))) =
+    let numbered = domain_numbered job.domain bytes domain domain_is in
+    let held = tables_held files domain job.instances tables numbered.task_is tables_are in
+    record {
+      posed = record {
+        job = job;
+        job_is = job_is;
+        domain_bytes = bytes;
+        domain_held = whole_held (files job.domain) MAX_INPUT_BYTES bytes read;
+        domain = domain.text;
+        domain_reads = numbered.reads;
+        task = domain.task;
+        task_is = numbered.task_is;
+        instances = held.instances;
+        instances_are = held.held;
+      };
+      fit = held.fit;
+      found = found.0;
+      is_answer = subst (λ (t : List Ground). IsAnswer (plain (meaning domain.task t job.pointers) RUN_LIMIT) BUDGET job.lines found.0) held.made found.1;
+      is = found.2;
+    }
+answered words files reply no_input no_usage (fault job job_is here) = absurd (no_input (synth_input files job reply here))
 answered words files _ no_input no_usage (usage none) = absurd (no_usage refl)
 
--- the reply over one line, by whether an atom of the goal is missing
-data OneLine (table : Ground) : Reply → Type 0 where
-  met : missing table.goal table.initial ≡ 0 → OneLine table (record { status = Done; text = solved_document (End ∷ []) 0 })
-  unmet : missing table.goal table.initial ≢ 0 → OneLine table (record { status = No; text = refuted_document })
+-- ---- what the answer shows
+done_is : (outcome : Outcome) → status_of outcome ≡ Done → (size : ℕ) × (outcome ≡ outcomes.Program size)
+done_is (outcomes.Program size) done = (size, refl)
+done_is outcomes.Nothing done = absurd (cc)
+done_is (outcomes.SpentExpansions size) done = absurd (cc)
+done_is (outcomes.SpentRun size t) done = absurd (cc)
 
-one_line : (table : Ground) → OneLine table (one_line_reply table)
-one_line table = by_count (missing table.goal table.initial) refl
-  where
-    by_count : (n : ℕ) → missing table.goal table.initial ≡ n → OneLine table (one_line_reply table)
-    by_count zero is =
-        let none : (missing table.goal table.initial == 0) ≡ true = rw is refl in
-        subst (λ (b : Bool). OneLine table (if b then record { status = Done; text = solved_document (End ∷ []) 0 } else record { status = No; text = refuted_document })) (sym none) (met is)
-    by_count (suc n) is =
-        let above : (suc n == 0) ≡ false = grind (arith, nat_tests) in
-        let some : (missing table.goal table.initial == 0) ≡ false = rw is above in
-        subst (λ (b : Bool). OneLine table (if b then record { status = Done; text = solved_document (End ∷ []) 0 } else record { status = No; text = refuted_document })) (sym some) (unmet (λ none. let both = sym is ∙ none in absurd (omega arith)))
+no_is : (outcome : Outcome) → status_of outcome ≡ No → outcome ≡ outcomes.Nothing
+no_is (outcomes.Program size) refuted = absurd (cc)
+no_is outcomes.Nothing refuted = refl
+no_is (outcomes.SpentExpansions size) refuted = absurd (cc)
+no_is (outcomes.SpentRun size t) refuted = absurd (cc)
 
--- with status 0 a program of one line solves
-pub finds : (words : List (List ℕ)) (files : Files) (reply : Reply) (old new : Option (List ℕ)) → Due words files reply → reply.status ≡ Done → Appends old new reply.text → FindsLeast words files old new
-finds words files reply old new due done appended =
-    let known = answered words files reply (λ is. let both = sym done ∙ is in cc) (λ is. let both = sym done ∙ is in cc) due in
-    by_case known (one_line_reply (ground_of known.task known.posed_instance)) known.is (one_line (ground_of known.task known.posed_instance))
-  where
-    by_case : (known : Answered words files reply) (r : Reply) → reply ≡ r → OneLine (ground_of known.task known.posed_instance) r → FindsLeast words files old new
-    by_case known _ is (met none) = record {
-      instance = known.posed_instance;
-      posed = known.posed;
-      lines = 1;
-      program = End ∷ [];
-      is_program = end_is_program;
-      at_most = omega arith;
-      least = λ fewer other below is_one solved. let some = is_one.some in absurd (omega (arith, below, some));
-      solves = record { steps = 0; config = first known.posed_instance; comes = refl; ends = refl; met = listed_where_met known.task known.posed_instance known.fits none };
-      written = subst (λ (r : Reply). Appends old new r.text) is appended;
-    }
-    by_case known _ is (unmet some) = let both = sym done ∙ ap (λ (r : Reply). r.status) is in absurd (cc)
+-- an answer that there is none has no program
+closed_otherwise : {C : Type 0} (s : Setting C) (size : ℕ) (close : Close) (a : Answer) → a.outcome ≡ outcomes.Nothing → Concludes s size close a → a.program ≡ None
+closed_otherwise s size (program_found q) a nothing says = let other = says.0 in absurd (cc)
+closed_otherwise s size (run_spent t) a nothing says = says.1
+closed_otherwise s size budget_spent a nothing says = says.1
+closed_otherwise s size size_refuted a nothing says = absurd says
 
--- with status 1 none does
-pub refutes : (words : List (List ℕ)) (files : Files) (reply : Reply) (old new : Option (List ℕ)) → Due words files reply → reply.status ≡ No → Appends old new reply.text → RefutesAll words files old new
-refutes words files reply old new due refuted appended =
-    let known = answered words files reply (λ is. let both = sym refuted ∙ is in cc) (λ is. let both = sym refuted ∙ is in cc) due in
-    by_case known (one_line_reply (ground_of known.task known.posed_instance)) known.is (one_line (ground_of known.task known.posed_instance))
-  where
-    by_case : (known : Answered words files reply) (r : Reply) → reply ≡ r → OneLine (ground_of known.task known.posed_instance) r → RefutesAll words files old new
-    by_case known _ is (met none) = let both = sym refuted ∙ ap (λ (r : Reply). r.status) is in absurd (cc)
-    by_case known _ is (unmet some) =
-        let fact = not_listed_where_unmet known.task known.posed_instance some in
-        record {
-          instance = known.posed_instance;
-          posed = known.posed;
-          none = none_solves known.posed_instance fact.0 fact.1 fact.2;
-          written = subst (λ (r : Reply). Appends old new r.text) is appended;
-        }
+without_program : {C : Type 0} (s : Setting C) (budget lines : ℕ) (a : Answer) → a.outcome ≡ outcomes.Nothing → Searches s budget lines a → a.program ≡ None
+without_program s budget lines a nothing (closed size from to trees nodes close below within sized says all) = closed_otherwise s (size + 1) close a nothing says
+without_program s budget lines a nothing (none_found stamps below outcome none no_ends) = none
+
+module _ (words : List (List ℕ)) (files : Files) (reply : Reply) (known : Answered words files reply) where
+  abbrev machine : Semantics Pointing
+  machine = machine_of known.posed.task known.posed.instances known.posed.job.pointers
+
+  abbrev lines : ℕ
+  lines = known.posed.job.lines
+
+  -- the answer is accepted
+  accepted : IsAccepted machine nobody lines known.found
+  accepted =
+      let count = length-operations known.posed.task known.posed.job.pointers in
+      searched_accepted (plain machine RUN_LIMIT) BUDGET lines known.found (omega (arith, count, known.posed.job_is.limits.some_pointers)) known.is_answer
+
+  shows_least : (size : ℕ) → known.found.outcome ≡ outcomes.Program size → ShowsLeast machine size lines known.found
+  shows_least size is = shown_least machine nobody (nobody_is_fair machine) lines size known.found (subst (IsShown machine nobody lines known.found) is accepted.shown)
+
+  none_solves : known.found.outcome ≡ outcomes.Nothing → NoneSolves machine lines
+  none_solves is = shown_none machine nobody (nobody_is_fair machine) lines known.found (subst (IsShown machine nobody lines known.found) is accepted.shown)
+
+  -- with status 0 a program solves, and none with fewer lines does
+  finds : (old new : Option (List ℕ)) → reply.status ≡ Done → Appends old new reply.text → FindsLeast words files old new
+  finds old new done appended =
+      let outcome = done_is known.found.outcome (sym (ap (λ (r : Reply). r.status) known.is) ∙ done) in
+      let shown = shows_least outcome.0 outcome.1 in
+      record {
+        posed = known.posed;
+        program = shown.program;
+        is_program = shown.least.is_program;
+        at_most = omega (arith, shown.size_is, shown.within);
+        solves = solves_each known.posed.task known.posed.instances known.posed.job.pointers known.fit shown.program shown.least.solves;
+        least = λ other is_one fewer solved. shown.least.least other is_one fewer (solves_all known.posed.task known.posed.instances known.posed.job.pointers known.fit other solved);
+        answer = known.found;
+        found = outcome.1 ∙ ap outcomes.Program (sym shown.size_is);
+        given = shown.given;
+        ends = ends_each known.posed.task known.posed.instances known.posed.job.pointers known.fit shown.program known.found.ends shown.ends;
+        searched = known.is_answer;
+        written = subst (λ (r : Reply). Appends old new r.text) known.is appended;
+      }
+
+  -- with status 1 none does
+  refutes : (old new : Option (List ℕ)) → reply.status ≡ No → Appends old new reply.text → RefutesAll words files old new
+  refutes old new refuted appended =
+      let outcome = no_is known.found.outcome (sym (ap (λ (r : Reply). r.status) known.is) ∙ refuted) in
+      record {
+        posed = known.posed;
+        none = λ program is_one few solved. none_solves outcome program is_one few (solves_all known.posed.task known.posed.instances known.posed.job.pointers known.fit program solved);
+        answer = known.found;
+        nothing = outcome;
+        no_program = without_program (plain machine RUN_LIMIT) BUDGET lines known.found outcome known.is_answer.searches;
+        searched = known.is_answer;
+        written = subst (λ (r : Reply). Appends old new r.text) known.is appended;
+      }
 
 -- what was written gives the headline
 pub headline : (words : List (List ℕ)) (files : Files) (reply : Reply) (status : Status) (f g : ℕ) (old new : Option (List ℕ)) → Due words files reply → Writes reply f g status old new → Headline words files status old new
-headline words files reply Done f g old new due writes = let wrote = writes.whole (λ e. cc) in finds words files reply old new due (sym wrote.0) wrote.1
-headline words files reply No f g old new due writes = let wrote = writes.whole (λ e. cc) in refutes words files reply old new due (sym wrote.0) wrote.1
+headline words files reply Done f g old new due writes =
+    let wrote = writes.whole (λ e. cc) in
+    let known = answered words files reply (λ is. let both = wrote.0 ∙ is in cc) (λ is. let both = wrote.0 ∙ is in cc) due in
+    finds words files reply known old new (sym wrote.0) wrote.1
+headline words files reply No f g old new due writes =
+    let wrote = writes.whole (λ e. cc) in
+    let known = answered words files reply (λ is. let both = wrote.0 ∙ is in cc) (λ is. let both = wrote.0 ∙ is in cc) due in
+    refutes words files reply known old new (sym wrote.0) wrote.1
 headline words files reply Usage f g old new due writes = tt
 headline words files reply Input f g old new due writes = tt
 headline words files reply SpentExpansions f g old new due writes = tt

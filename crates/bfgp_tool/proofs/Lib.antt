@@ -1,12 +1,16 @@
 pub mod Spelled
 pub mod Naming
-pub mod Facts
+pub mod Refused
+pub mod Lists
+pub mod Digits
 pub mod Validity
 pub mod Chain
 pub mod SpelledNames
 pub mod Sequels
+pub mod Tables
 pub mod Synths
 pub mod Replying
+pub mod GoalRuns
 pub mod Headlines
 pub mod Documents
 pub mod Decided

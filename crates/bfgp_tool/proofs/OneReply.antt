@@ -1,5 +1,6 @@
 -- One reply is due.
-use Rattle.std.proofs.Common.{◌≡◌, ℕ, List, map, Option, Some, None, Result, Ok, Err, refl, sym, ◌∙◌, ap, subst, arith}
+use Rattle.std.proofs.Common.{◌≡◌, ℕ, List, [], ◌∷◌, map, decimal, Option, Some, None, Result, Ok, Err, refl, sym, ◌∙◌, ap, subst, arith}
+use Rattle.std.proofs.lemmas.Fmt.{decimal_injective}
 use Rattle.bfgp_outside.specs.Shelf.{Files}
 use Rattle.bfgp_outside.specs.Whole.{whole_of}
 use Rattle.bfgp_outside.specs.declared.whole.ReadRefusal.{ReadRefusal}
@@ -13,6 +14,15 @@ use Rattle.ground_state.specs.declared.parts.InstanceParts.{InstanceParts}
 use Rattle.ground_state.specs.declared.refusal.GroundRefusal.{GroundRefusal}
 use Rattle.ground_state.specs.declared.refusal.GroundRefusal.TheVariants as grounded
 use Rattle.ground_state.specs.Ground.{Ground, atoms_needed}
+use Rattle.pointer_machine.specs.declared.refusal.MachineRefusal.{MachineRefusal}
+use Rattle.pointer_machine.specs.declared.refusal.MachineRefusal.TheVariants as made
+use Rattle.pointer_machine.specs.Operations.{operation_count}
+use Rattle.pointer_machine.specs.Meaning.{meaning}
+use Rattle.pointer_machine.specs.Texts.{operation_texts}
+use Rattle.synthesis.specs.declared.limits.TheConstants.{BUDGET, RUN_LIMIT}
+use Rattle.synthesis.specs.declared.evidence.Answer.{Answer as SearchAnswer}
+use Rattle.synthesis.specs.Search.{plain}
+use Rattle.synthesis.proofs.SameAnswers.{same_answer}
 use Rattle.bfgp_tool.specs.declared.domain_reading.Domain.{Domain}
 use Rattle.bfgp_tool.specs.declared.fault.Fault.{Fault}
 use Rattle.bfgp_tool.specs.declared.fault.Fault.TheVariants as faults
@@ -21,11 +31,12 @@ use Rattle.bfgp_tool.specs.declared.numbering.NumberingRefusal.{NumberingRefusal
 use Rattle.bfgp_tool.specs.declared.numbering.NumberingRefusal.TheVariants as numbering
 use Rattle.bfgp_tool.specs.declared.reply.Reply.{Reply}
 use Rattle.bfgp_tool.specs.Words.{JobOf}
-use Rattle.bfgp_tool.specs.Faults.{reading_fault, parsing_fault, numbering_fault, ground_fault}
+use Rattle.bfgp_tool.specs.Faults.{reading_fault, parsing_fault, numbering_fault, ground_fault, machine_fault}
 use Rattle.bfgp_tool.specs.Steps.{goes_on}
 use Rattle.bfgp_tool.specs.Numbering.{AreApart, head_of, IsTaskReply, IsInstanceReply}
-use Rattle.bfgp_tool.specs.Grounding.{IsGroundReply}
-use Rattle.bfgp_tool.specs.Due.{Due, answer, fault, usage, IsWhole, file_due, domain_due, answer_due, job_due, one_line_reply}
+use Rattle.bfgp_tool.specs.Grounding.{IsGroundReply, IsCountReply}
+use Rattle.bfgp_tool.specs.Document.{document}
+use Rattle.bfgp_tool.specs.Due.{Due, answer, fault, usage, IsWhole, file_due, domain_due, table_due, tables_due, answer_due, job_due, status_of}
 use Rattle.bfgp_tool.proofs.Decided.{IsDecided, IsDefinite, pure_decided, then_decided, tell_decided}
 use Rattle.bfgp_tool.proofs.Determined.{TaskOf-unique, InstanceOf-unique}
 
@@ -64,6 +75,13 @@ ground_definite task instance = record { value = λ a b p q. p.0 ∙ sym q.0; fa
     tells (grounded.TooManyAtoms count) x p is = (let count_is = p.0 in cc, λ a q. omega (arith, p.0, p.1, q.1))
     tells grounded.OutOfMemory x p is = absurd (cc)
 
+count_definite : (task : TaskParts) (pointers : ℕ) → IsDefinite machine_fault (IsCountReply task pointers)
+count_definite task pointers = record { value = λ a b p q. refl; fault = Some (faults.Operations (operation_count task pointers)); tells = tells }
+  where
+    tells : (e : MachineRefusal) (x : Fault) → IsCountReply task pointers (Err e) → machine_fault e ≡ Some x → (Some (faults.Operations (operation_count task pointers)) ≡ Some x) × ((a : Unit {0}) → IsCountReply task pointers (Ok a) → ⊥)
+    tells (made.TooManyOps count) x p is = (let count_is = p.0 in cc, λ a q. omega (arith, p.0, p.1, q))
+    tells made.OutOfMemory x p is = absurd (cc)
+
 -- each step of a job is decided
 file_decided : (files : Files) (name : List ℕ) → IsDecided (file_due files name)
 file_decided files name = tell_decided name (whole_definite files name)
@@ -80,27 +98,55 @@ heads_apart name bytes domain (goes_on {a = text} text_is (goes_on {a = task} ta
     let is : record { text = text; task = task } ≡ domain = cc in
     subst (λ (d : Domain). AreApart (map head_of d.text.predicates)) is task_is.heads_differ
 
-answer_decided : (name : List ℕ) (domain : Domain) (bytes : List ℕ) → AreApart (map head_of domain.text.predicates) → IsDecided (answer_due name domain bytes)
-answer_decided name domain bytes heads =
-    then_decided (tell_decided name (text_definite (HasProblem bytes) (HasProblem-unique bytes))) (λ text has.
-    then_decided (tell_decided name (numbering_definite (IsInstanceReply domain.text text) (InstanceOf-unique domain.text text heads) (λ none. none))) (λ instance is.
-    then_decided (tell_decided name (ground_definite domain.task instance)) (λ table made.
-    pure_decided (one_line_reply table))))
+-- over a domain whose heads differ
+module _ (files : Files) (domain : Domain) (heads : AreApart (map head_of domain.text.predicates)) where
+  table_decided : (name bytes : List ℕ) → IsDecided (table_due name domain bytes)
+  table_decided name bytes =
+      then_decided (tell_decided name (text_definite (HasProblem bytes) (HasProblem-unique bytes))) (λ text has.
+      then_decided (tell_decided name (numbering_definite (IsInstanceReply domain.text text) (InstanceOf-unique domain.text text heads) (λ none. none))) (λ instance is.
+      tell_decided name (ground_definite domain.task instance)))
+
+  tables_decided : (names : List (List ℕ)) → IsDecided (tables_due files domain names)
+  tables_decided [] = pure_decided []
+  tables_decided (name ∷ names) =
+      then_decided (file_decided files name) (λ bytes read.
+      then_decided (table_decided name bytes) (λ table made.
+      then_decided (tables_decided names) (λ tables others.
+      pure_decided (table ∷ tables))))
+
+answer_decided : (task : TaskParts) (tables : List Ground) (pointers lines : ℕ) → IsDecided (answer_due task tables pointers lines)
+answer_decided task tables pointers lines = record { one = both }
+  where
+    reply_with : SearchAnswer → Reply
+    reply_with a = record { status = status_of a.outcome; text = document (operation_texts task pointers) a }
+
+    both : (r s : Result Reply Reply) → answer_due task tables pointers lines r → answer_due task tables pointers lines s → r ≡ s
+    both (Ok x) (Ok y) p q = ap Ok (p.2 ∙ ap reply_with (same_answer (plain (meaning task tables pointers) RUN_LIMIT) BUDGET lines p.0 q.0 p.1 q.1) ∙ sym q.2)
+    both (Ok x) (Err y) p q = absurd q
+    both (Err x) s p q = absurd p
 
 job_decided : (files : Files) (job : Job) → IsDecided (job_due files job)
 job_decided files job =
     then_decided (file_decided files job.domain) (λ bytes read.
     then_decided (domain_decided job.domain bytes) (λ domain numbered.
-    then_decided (file_decided files job.instance) (λ more read_more.
-    answer_decided job.instance domain more (heads_apart job.domain bytes domain numbered))))
+    then_decided (tables_decided files domain (heads_apart job.domain bytes domain numbered) job.instances) (λ tables made.
+    then_decided (tell_decided job.domain (count_definite domain.task job.pointers)) (λ counted few.
+    answer_decided domain.task tables job.pointers job.lines))))
 
 -- the words are those of one job at most
 JobOf-unique : (words : List (List ℕ)) (one other : Job) → JobOf words one → JobOf words other → one ≡ other
 JobOf-unique words one other p q =
     let both = sym p.spelled ∙ q.spelled in
+    let pointers : decimal one.pointers ≡ decimal other.pointers = cc in
+    let lines : decimal one.lines ≡ decimal other.lines = cc in
     let domain : one.domain ≡ other.domain = cc in
-    let instance : one.instance ≡ other.instance = cc in
-    λ i. record { domain = domain i; instance = instance i }
+    let instances : one.instances ≡ other.instances = cc in
+    λ i. record {
+      pointers = decimal_injective one.pointers other.pointers (omega (arith, p.limits.few_pointers)) (omega (arith, q.limits.few_pointers)) pointers i;
+      lines = decimal_injective one.lines other.lines (omega (arith, p.limits.few_lines)) (omega (arith, q.limits.few_lines)) lines i;
+      domain = domain i;
+      instances = instances i;
+    }
 
 abbrev reply_of : Result Reply Reply → Reply
 reply_of (Ok reply) = reply

@@ -1,5 +1,5 @@
 -- What follows each step of a job.
-use Rattle.std.proofs.Common.{ℕ, List, Result}
+use Rattle.std.proofs.Common.{ℕ, List, ◌∷◌, ◌++◌, Result}
 use Rattle.pddl_parser.specs.declared.texts.DomainText.{DomainText}
 use Rattle.pddl_parser.specs.declared.texts.ProblemText.{ProblemText}
 use Rattle.ground_state.specs.declared.parts.TaskParts.{TaskParts}
@@ -7,12 +7,13 @@ use Rattle.ground_state.specs.declared.parts.InstanceParts.{InstanceParts}
 use Rattle.ground_state.specs.Ground.{Ground}
 use Rattle.bfgp_outside.specs.Shelf.{Files}
 use Rattle.bfgp_tool.specs.declared.domain_reading.Domain.{Domain}
+use Rattle.bfgp_tool.specs.declared.job.Job.{Job}
 use Rattle.bfgp_tool.specs.declared.reply.Reply.{Reply}
-use Rattle.bfgp_tool.specs.Faults.{numbering_fault, ground_fault}
+use Rattle.bfgp_tool.specs.Faults.{numbering_fault, ground_fault, machine_fault}
 use Rattle.bfgp_tool.specs.Steps.{◌>>=◌, pure, or_tell}
 use Rattle.bfgp_tool.specs.Numbering.{IsTaskReply, IsInstanceReply}
-use Rattle.bfgp_tool.specs.Grounding.{IsGroundReply}
-use Rattle.bfgp_tool.specs.Due.{file_due, domain_due, answer_due, one_line_reply}
+use Rattle.bfgp_tool.specs.Grounding.{IsGroundReply, IsCountReply}
+use Rattle.bfgp_tool.specs.Due.{domain_due, table_due, tables_due, answer_due}
 
 -- after the task of a domain text
 abbrev pub after_task : DomainText → TaskParts → Result Domain Reply → Type 0
@@ -22,22 +23,38 @@ after_task text task = pure (record { text = text; task = task })
 abbrev pub after_domain_text : List ℕ → DomainText → Result Domain Reply → Type 0
 after_domain_text name text = or_tell name numbering_fault (IsTaskReply text) >>= after_task text
 
--- after the table of an instance
-abbrev pub after_table : Ground → Result Reply Reply → Type 0
-after_table table = pure (one_line_reply table)
-
 -- after the parts of an instance
-abbrev pub after_instance : List ℕ → Domain → InstanceParts → Result Reply Reply → Type 0
-after_instance name domain instance = or_tell name ground_fault (IsGroundReply domain.task instance) >>= after_table
+abbrev pub after_instance : List ℕ → Domain → InstanceParts → Result Ground Reply → Type 0
+after_instance name domain instance = or_tell name ground_fault (IsGroundReply domain.task instance)
 
 -- after an instance text
-abbrev pub after_problem_text : List ℕ → Domain → ProblemText → Result Reply Reply → Type 0
+abbrev pub after_problem_text : List ℕ → Domain → ProblemText → Result Ground Reply → Type 0
 after_problem_text name domain text = or_tell name numbering_fault (IsInstanceReply domain.text text) >>= after_instance name domain
 
+-- some tables and those of the other instances
+abbrev pub after_others : List Ground → List Ground → Result (List Ground) Reply → Type 0
+after_others front others = pure (front ++ others)
+
+-- after the table of the first instance
+abbrev pub after_table : Files → Domain → List (List ℕ) → Ground → Result (List Ground) Reply → Type 0
+after_table files domain names table = tables_due files domain names >>= (λ tables. pure (table ∷ tables))
+
+-- after the bytes of the first instance's file
+abbrev pub after_instance_bytes : Files → Domain → List ℕ → List (List ℕ) → List ℕ → Result (List Ground) Reply → Type 0
+after_instance_bytes files domain name names bytes = table_due name domain bytes >>= after_table files domain names
+
+-- after the operations were counted
+abbrev pub after_count : Job → Domain → List Ground → Unit {0} → Result Reply Reply → Type 0
+after_count job domain tables counted = answer_due domain.task tables job.pointers job.lines
+
+-- after the tables of the instances
+abbrev pub after_tables : Job → Domain → List Ground → Result Reply Reply → Type 0
+after_tables job domain tables = or_tell job.domain machine_fault (IsCountReply domain.task job.pointers) >>= after_count job domain tables
+
 -- after the domain
-abbrev pub after_domain : Files → List ℕ → Domain → Result Reply Reply → Type 0
-after_domain files instance_name domain = file_due files instance_name >>= answer_due instance_name domain
+abbrev pub after_domain : Files → Job → Domain → Result Reply Reply → Type 0
+after_domain files job domain = tables_due files domain job.instances >>= after_tables job domain
 
 -- after the bytes of the domain file
-abbrev pub after_domain_bytes : Files → List ℕ → List ℕ → List ℕ → Result Reply Reply → Type 0
-after_domain_bytes files domain_name instance_name bytes = domain_due domain_name bytes >>= after_domain files instance_name
+abbrev pub after_domain_bytes : Files → Job → List ℕ → Result Reply Reply → Type 0
+after_domain_bytes files job bytes = domain_due job.domain bytes >>= after_domain files job

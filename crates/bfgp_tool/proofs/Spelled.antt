@@ -1,18 +1,16 @@
--- A list of a known length, spelled by its items.
-use Rattle.std.proofs.Common.{◌≡◌, List, [], ◌∷◌, length, get_or, ap, arith, map, ◌∙◌}
+-- The words of a command, each known by its place.
+use Rattle.std.proofs.Common.{◌≡◌, ℕ, ◌+◌, ◌-◌, ◌<◌, ◌≤◌, List, ◌∷◌, map, take, drop, length, get_or, sym, ◌∙◌, ap, arith}
+use Rattle.std.proofs.lemmas.List.{drop_more, take_rest}
 
--- seven items, each known by its place
-pub seven : {X : Type 0} (xs : List X) (a b c d e f g : X) → length xs ≡ 7 → a ≡ get_or xs 0 a → b ≡ get_or xs 1 b → c ≡ get_or xs 2 c → d ≡ get_or xs 3 d → e ≡ get_or xs 4 e → f ≡ get_or xs 5 f → g ≡ get_or xs 6 g → xs ≡ a ∷ b ∷ c ∷ d ∷ e ∷ f ∷ g ∷ []
-seven (x0 ∷ x1 ∷ x2 ∷ x3 ∷ x4 ∷ x5 ∷ x6 ∷ []) a b c d e f g len ea eb ec ed ee ef eg = cc
-seven [] a b c d e f g len ea eb ec ed ee ef eg = absurd (omega arith)
-seven (x0 ∷ []) a b c d e f g len ea eb ec ed ee ef eg = absurd (omega arith)
-seven (x0 ∷ x1 ∷ []) a b c d e f g len ea eb ec ed ee ef eg = absurd (omega arith)
-seven (x0 ∷ x1 ∷ x2 ∷ []) a b c d e f g len ea eb ec ed ee ef eg = absurd (omega arith)
-seven (x0 ∷ x1 ∷ x2 ∷ x3 ∷ []) a b c d e f g len ea eb ec ed ee ef eg = absurd (omega arith)
-seven (x0 ∷ x1 ∷ x2 ∷ x3 ∷ x4 ∷ []) a b c d e f g len ea eb ec ed ee ef eg = absurd (omega arith)
-seven (x0 ∷ x1 ∷ x2 ∷ x3 ∷ x4 ∷ x5 ∷ []) a b c d e f g len ea eb ec ed ee ef eg = absurd (omega arith)
-seven (x0 ∷ x1 ∷ x2 ∷ x3 ∷ x4 ∷ x5 ∷ x6 ∷ x7 ∷ xs) a b c d e f g len ea eb ec ed ee ef eg = absurd (omega arith)
+next : {X Y : Type 0} (f : X → Y) (xs : List X) (i : ℕ) (x : X) → i < length xs → x ≡ get_or xs i x → map f (drop i xs) ≡ f x ∷ map f (drop (i + 1) xs)
+next f xs i x within is = ap (map f) (drop_more xs i x within) ∙ ap (λ y. f y ∷ map f (drop (i + 1) xs)) (sym is)
 
--- the same after a function, each value known
-pub seven_mapped : {X Y : Type 0} (f : X → Y) (xs : List X) (a b c d e f' g : X) (p q r s t u v : Y) → xs ≡ a ∷ b ∷ c ∷ d ∷ e ∷ f' ∷ g ∷ [] → f a ≡ p → f b ≡ q → f c ≡ r → f d ≡ s → f e ≡ t → f f' ≡ u → f g ≡ v → map f xs ≡ p ∷ q ∷ r ∷ s ∷ t ∷ u ∷ v ∷ []
-seven_mapped f xs a b c d e f' g p q r s t u v is ep eq er es et eu ev = ap (map f) is ∙ (λ i. ep i ∷ eq i ∷ er i ∷ es i ∷ et i ∷ eu i ∷ ev i ∷ [])
+-- six words and the others
+pub six : {X Y : Type 0} (f : X → Y) (xs : List X) (a b c d e g : X) → 6 ≤ length xs → a ≡ get_or xs 0 a → b ≡ get_or xs 1 b → c ≡ get_or xs 2 c → d ≡ get_or xs 3 d → e ≡ get_or xs 4 e → g ≡ get_or xs 5 g → map f xs ≡ f a ∷ f b ∷ f c ∷ f d ∷ f e ∷ f g ∷ map f (take (length xs - 6) (drop 6 xs))
+six f xs a b c d e g long at0 at1 at2 at3 at4 at5 =
+    next f xs 0 a (omega (arith, long)) at0 ∙ ap (λ l. f a ∷ l) (
+    next f xs 1 b (omega (arith, long)) at1 ∙ ap (λ l. f b ∷ l) (
+    next f xs 2 c (omega (arith, long)) at2 ∙ ap (λ l. f c ∷ l) (
+    next f xs 3 d (omega (arith, long)) at3 ∙ ap (λ l. f d ∷ l) (
+    next f xs 4 e (omega (arith, long)) at4 ∙ ap (λ l. f e ∷ l) (
+    next f xs 5 g (omega (arith, long)) at5 ∙ ap (λ l. f g ∷ map f l) (sym (take_rest xs 6)))))))

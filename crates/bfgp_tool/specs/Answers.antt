@@ -1,5 +1,5 @@
 -- What the planner did, by the status that it ended with, and when each status may come.
-use Rattle.std.specs.Prelude.{◌≡◌, ◌≢◌, ◌⊎◌, ℕ, List, Option, Result, Ok, Err}
+use Rattle.std.specs.Prelude.{◌≡◌, ◌≢◌, ℕ, List, Option, Result, Ok, Err}
 use Rattle.bfgp_outside.specs.Causes.{Rose}
 use Rattle.bfgp_outside.specs.Sink.{Keeps, Appends, AppendsPrefix}
 use Rattle.bfgp_tool.specs.declared.fault.Fault.{Fault}
@@ -20,15 +20,19 @@ IsReplyStatus Done = Unit {0}
 IsReplyStatus No = Unit {0}
 IsReplyStatus Usage = Unit {0}
 IsReplyStatus Input = Unit {0}
-IsReplyStatus SpentExpansions = ⊥
-IsReplyStatus SpentRun = ⊥
+IsReplyStatus SpentExpansions = Unit {0}
+IsReplyStatus SpentRun = Unit {0}
 IsReplyStatus ReadFault = ⊥
 IsReplyStatus WriteFault = ⊥
 IsReplyStatus OutOfMemory = ⊥
 
--- the status of an answer that is no fault
+-- the status of a search's answer
 abbrev pub IsVerdict : Status → Type 0
-IsVerdict status = (status ≡ Done) ⊎ (status ≡ No)
+IsVerdict Done = Unit {0}
+IsVerdict No = Unit {0}
+IsVerdict SpentExpansions = Unit {0}
+IsVerdict SpentRun = Unit {0}
+IsVerdict _ = ⊥
 
 -- a fact about the reply that is to be written, if there is one
 abbrev pub OnReply : Result Reply Halt → (Reply → Type 0) → Type 0
@@ -104,7 +108,7 @@ pub record TellsFault (absences absences_now : ℕ) (reply : Reply) : Type 0 whe
   pub is : reply ≡ fault_reply name fault
   pub absent : fault ≡ faults.Absent → Rose absences absences_now
 
--- a job that ended at a fault of a file that is there
+-- a job that ended at another fault than that a file is absent, or for want of memory
 abbrev pub TellsOther : Halt → Type 0
 TellsOther (halts.Early reply) = (name : List ℕ) × (fault : Fault) × (reply ≡ fault_reply name fault) × (fault ≢ faults.Absent)
 TellsOther halts.ReadFault = ⊥

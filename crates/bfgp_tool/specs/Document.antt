@@ -1,20 +1,77 @@
--- The answer document of a search over one pointer, one line and one instance.
-use Rattle.std.specs.Prelude.{ℕ, List, [], ◌∷◌, ◌++◌, map, length, codes, decimal}
+-- The answer document: what was asked, the verdict, the trees with their marks, the program, and where its runs end.
+use Rattle.std.specs.Prelude.{ℕ, ◌+◌, List, [], ◌∷◌, ◌++◌, map, flat_map, slice_index_or, Option, Some, None, codes, decimal}
 use Rattle.flag_rules.specs.Line.{lines_of}
-use Rattle.bfgp_tool.specs.Programs.{Program, instruction_text}
+use Rattle.flag_rules.specs.declared.flags.Cond.{Cond}
+use Rattle.flag_rules.specs.declared.flags.Cond.TheVariants.{Zero, Nonzero, Carry, Nocarry}
+use Rattle.program_model.specs.declared.instr.Instr.{Instr}
+use Rattle.program_model.specs.declared.instr.Instr.TheVariants.{Op, Goto, End}
+use Rattle.program_model.specs.Program.{Program}
+use Rattle.synthesis.specs.declared.evidence.Mark.{Mark}
+use Rattle.synthesis.specs.declared.evidence.Mark.TheVariants as marks
+use Rattle.synthesis.specs.declared.evidence.Tree.{Tree}
+use Rattle.synthesis.specs.declared.evidence.Outcome.{Outcome}
+use Rattle.synthesis.specs.declared.evidence.Outcome.TheVariants as outcomes
+use Rattle.synthesis.specs.declared.evidence.Answer.{Answer}
+
+-- a space and a number
+abbrev pub then_number : ℕ → List ℕ
+then_number number = codes " " ++ decimal number
 
 -- the form of the document, and what was asked
-abbrev pub head_lines : List (List ℕ)
-head_lines = codes "bfgp answer 1" ∷ codes "pointers 1" ∷ codes "lines 1" ∷ codes "instances 1" ∷ []
+abbrev pub head_lines : Answer → List (List ℕ)
+head_lines a = codes "bfgp answer 1" ∷ (codes "pointers" ++ then_number a.pointers) ∷ (codes "lines" ++ then_number a.lines) ∷ (codes "instances" ++ then_number a.instances) ∷ []
 
--- a program solves the instance: the tree of its size is the mark of a solved node, and its run ends after these steps
-abbrev pub solved_document : Program → ℕ → List ℕ
-solved_document program steps = lines_of (
-    head_lines ++
-    ((codes "verdict program " ++ decimal (length program)) ∷ codes "tree 1" ∷ codes "g" ∷ codes "program" ∷ []) ++
-    map instruction_text program ++
-    ((codes "ends 0 " ++ decimal steps) ∷ codes "end of answer" ∷ []))
+abbrev pub verdict_line : Outcome → List ℕ
+verdict_line (outcomes.Program size) = codes "verdict program" ++ then_number size
+verdict_line outcomes.Nothing = codes "verdict none"
+verdict_line (outcomes.SpentExpansions size) = codes "verdict spent expansions" ++ then_number size
+verdict_line (outcomes.SpentRun size t) = codes "verdict spent run" ++ then_number size ++ then_number t
 
--- no program of one line does: the run on instance 0 ends after no step with an atom of the goal missing
-abbrev pub refuted_document : List ℕ
-refuted_document = lines_of (head_lines ++ (codes "verdict none" ∷ codes "tree 1" ∷ codes "f 0 0" ∷ codes "end of answer" ∷ []))
+abbrev pub mark_line : Mark → List ℕ
+mark_line (marks.Split line stamp) = codes "s" ++ then_number line ++ then_number stamp
+mark_line (marks.Unmet t steps) = codes "f" ++ then_number t ++ then_number steps
+mark_line (marks.Loops t from to) = codes "l" ++ then_number t ++ then_number from ++ then_number to
+mark_line marks.Twin = codes "t"
+mark_line marks.Waiting = codes "o"
+mark_line marks.Solved = codes "g"
+mark_line (marks.AtLimit t) = codes "r" ++ then_number t
+
+-- a tree: its size, and its marks, one in each line
+abbrev pub tree_lines : Tree → List (List ℕ)
+tree_lines tree = (codes "tree" ++ then_number tree.size) ∷ map mark_line tree.marks
+
+abbrev pub cond_text : Cond → List ℕ
+cond_text Zero = codes "zero"
+cond_text Nonzero = codes "nonzero"
+cond_text Carry = codes "carry"
+cond_text Nocarry = codes "nocarry"
+
+-- an instruction, where these are the texts of the operations
+abbrev pub instruction_text : List (List ℕ) → Instr → List ℕ
+instruction_text texts (Op op) = slice_index_or texts op []
+instruction_text texts (Goto target cond) = codes "goto" ++ then_number target ++ codes " if " ++ cond_text cond
+instruction_text texts End = codes "end"
+
+-- a line of a program; all lines of a program are defined
+abbrev pub program_line : List (List ℕ) → Option Instr → List ℕ
+program_line texts None = []
+program_line texts (Some instr) = instruction_text texts instr
+
+-- the program, if one was found
+abbrev pub program_lines : List (List ℕ) → Option Program → List (List ℕ)
+program_lines texts None = []
+program_lines texts (Some program) = codes "program" ∷ map (program_line texts) program
+
+-- the steps after which the program's runs end, from an instance on
+abbrev pub ends_lines : ℕ → List ℕ → List (List ℕ)
+ends_lines t [] = []
+ends_lines t (steps ∷ rest) = (codes "ends" ++ then_number t ++ then_number steps) ∷ ends_lines (t + 1) rest
+
+-- the document of an answer, where these are the texts of the operations
+abbrev pub document : List (List ℕ) → Answer → List ℕ
+document texts a = lines_of (
+    head_lines a ++
+    (verdict_line a.outcome ∷ flat_map tree_lines a.trees) ++
+    program_lines texts a.program ++
+    ends_lines 0 a.ends ++
+    codes "end of answer" ∷ [])

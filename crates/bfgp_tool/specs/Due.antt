@@ -1,35 +1,35 @@
 -- What is due for the words of a command and the files: one status and one text.
-use Rattle.std.specs.Prelude.{◌≡◌, ◌==◌, ℕ, List, [], ◌∷◌, Result, Ok, Err, if◌then◌else◌}
+use Rattle.std.specs.Prelude.{◌≡◌, ℕ, List, [], ◌∷◌, Result, Ok, Err}
 use Rattle.bfgp_outside.specs.Shelf.{Files}
 use Rattle.bfgp_outside.specs.Whole.{whole_of}
 use Rattle.bfgp_outside.specs.declared.whole.ReadRefusal.{ReadRefusal}
 use Rattle.pddl_parser.specs.Replies.{IsDomainReply, IsProblemReply}
+use Rattle.ground_state.specs.declared.parts.TaskParts.{TaskParts}
 use Rattle.ground_state.specs.Ground.{Ground}
-use Rattle.bfgp_tool.specs.Grounding.{IsGroundReply}
-use Rattle.ground_state.specs.State.{missing}
+use Rattle.pointer_machine.specs.Meaning.{meaning}
+use Rattle.pointer_machine.specs.Texts.{operation_texts}
+use Rattle.synthesis.specs.declared.limits.TheConstants.{BUDGET, RUN_LIMIT}
+use Rattle.synthesis.specs.declared.evidence.Answer.{Answer}
+use Rattle.synthesis.specs.declared.evidence.Outcome.{Outcome}
+use Rattle.synthesis.specs.declared.evidence.Outcome.TheVariants as outcomes
+use Rattle.synthesis.specs.Search.{plain}
+use Rattle.synthesis.specs.Answers.{IsAnswer}
+use Rattle.bfgp_tool.specs.Grounding.{IsGroundReply, IsCountReply}
 use Rattle.bfgp_tool.specs.declared.input.TheConstants.{MAX_INPUT_BYTES}
 use Rattle.bfgp_tool.specs.declared.job.Job.{Job}
 use Rattle.bfgp_tool.specs.declared.domain_reading.Domain.{Domain}
 use Rattle.bfgp_tool.specs.declared.reply.Reply.{Reply}
-use Rattle.bfgp_tool.specs.declared.status.Status.TheVariants.{Done, No, Usage}
+use Rattle.bfgp_tool.specs.declared.status.Status.{Status}
+use Rattle.bfgp_tool.specs.declared.status.Status.TheVariants.{Done, No, Usage, SpentExpansions, SpentRun}
 use Rattle.bfgp_tool.specs.Words.{JobOf, usage_text}
-use Rattle.bfgp_tool.specs.Faults.{reading_fault, parsing_fault, numbering_fault, ground_fault}
+use Rattle.bfgp_tool.specs.Faults.{reading_fault, parsing_fault, numbering_fault, ground_fault, machine_fault}
 use Rattle.bfgp_tool.specs.Steps.{◌>>=◌, pure, or_tell}
 use Rattle.bfgp_tool.specs.Numbering.{IsTaskReply, IsInstanceReply}
-use Rattle.bfgp_tool.specs.Programs.{End}
-use Rattle.bfgp_tool.specs.Document.{solved_document, refuted_document}
+use Rattle.bfgp_tool.specs.Document.{document}
 
 -- the bytes of a file that is held and not too long, or why they are not taken
 abbrev pub IsWhole : Files → List ℕ → Result (List ℕ) ReadRefusal → Type 0
 IsWhole files name result = result ≡ whole_of (files name) MAX_INPUT_BYTES
-
--- the reply: the program `end`, which ends after no step, where no atom of the goal is missing at the start, else the
--- refutation
-abbrev pub one_line_reply : Ground → Reply
-one_line_reply table =
-    if missing table.goal table.initial == 0
-    then record { status = Done; text = solved_document (End ∷ []) 0 }
-    else record { status = No; text = refuted_document }
 
 -- the bytes of an input file, or the fault that it is absent or too long
 abbrev pub file_due : Files → List ℕ → Result (List ℕ) Reply → Type 0
@@ -42,25 +42,46 @@ domain_due name bytes = do
   task ← or_tell name numbering_fault (IsTaskReply text)
   pure (record { text = text; task = task })
 
--- the bytes of an instance file are read, its names numbered, its ground atoms counted, and then it is answered
-abbrev pub answer_due : List ℕ → Domain → List ℕ → Result Reply Reply → Type 0
-answer_due name domain bytes = do
+-- the bytes of an instance file are read, its names numbered, and its ground atoms counted
+abbrev pub table_due : List ℕ → Domain → List ℕ → Result Ground Reply → Type 0
+table_due name domain bytes = do
   text ← or_tell name parsing_fault (IsProblemReply bytes)
   instance ← or_tell name numbering_fault (IsInstanceReply domain.text text)
-  table ← or_tell name ground_fault (IsGroundReply domain.task instance)
-  pure (one_line_reply table)
+  or_tell name ground_fault (IsGroundReply domain.task instance)
 
--- `synth`: all of the domain file first, then all of the instance file
-abbrev pub synth_due : Files → List ℕ → List ℕ → Result Reply Reply → Type 0
-synth_due files domain_name instance_name = do
-  domain_bytes ← file_due files domain_name
-  domain ← domain_due domain_name domain_bytes
-  instance_bytes ← file_due files instance_name
-  answer_due instance_name domain instance_bytes
+-- all of each instance file before the next
+abbrev pub tables_due : Files → Domain → List (List ℕ) → Result (List Ground) Reply → Type 0
+tables_due files domain [] = pure []
+tables_due files domain (name ∷ names) = do
+  bytes ← file_due files name
+  table ← table_due name domain bytes
+  tables ← tables_due files domain names
+  pure (table ∷ tables)
+
+-- the status of an answer, by its outcome
+abbrev pub status_of : Outcome → Status
+status_of (outcomes.Program size) = Done
+status_of outcomes.Nothing = No
+status_of (outcomes.SpentExpansions size) = SpentExpansions
+status_of (outcomes.SpentRun size t) = SpentRun
+
+-- the reply is the document of the search's answer, over the instances of these tables
+abbrev pub answer_due : TaskParts → List Ground → ℕ → ℕ → Result Reply Reply → Type 0
+answer_due task tables pointers lines (Ok reply) = (answer : Answer) × IsAnswer (plain (meaning task tables pointers) RUN_LIMIT) BUDGET lines answer × (reply ≡ record { status = status_of answer.outcome; text = document (operation_texts task pointers) answer })
+answer_due task tables pointers lines (Err reply) = ⊥
+
+-- `synth`: all of the domain file first, then the instance files in order, then the operations are counted
+abbrev pub synth_due : Files → Job → Result Reply Reply → Type 0
+synth_due files job = do
+  bytes ← file_due files job.domain
+  domain ← domain_due job.domain bytes
+  tables ← tables_due files domain job.instances
+  counted ← or_tell job.domain machine_fault (IsCountReply domain.task job.pointers)
+  answer_due domain.task tables job.pointers job.lines
 
 -- what is due for a job, by its command
 abbrev pub job_due : Files → Job → Result Reply Reply → Type 0
-job_due files job = synth_due files job.domain job.instance
+job_due files job = synth_due files job
 
 abbrev pub usage_reply : Reply
 usage_reply = record { status = Usage; text = usage_text }

@@ -7,8 +7,10 @@ use Rattle.pddl_parser.specs.declared.refusal.ParseRefusal.{ParseRefusal}
 use Rattle.pddl_parser.specs.declared.refusal.ParseRefusal.TheVariants as parse
 use Rattle.ground_state.specs.declared.refusal.GroundRefusal.{GroundRefusal}
 use Rattle.ground_state.specs.declared.refusal.GroundRefusal.TheVariants as grounded
+use Rattle.pointer_machine.specs.declared.refusal.MachineRefusal.{MachineRefusal}
+use Rattle.pointer_machine.specs.declared.refusal.MachineRefusal.TheVariants as made
 use Rattle.bfgp_tool.specs.declared.fault.Fault.{Fault}
-use Rattle.bfgp_tool.specs.declared.fault.Fault.TheVariants.{Absent, TooLong, Byte, Unclosed, Unopened, TooDeep, Shape, Unsupported, Atoms}
+use Rattle.bfgp_tool.specs.declared.fault.Fault.TheVariants.{Absent, TooLong, Byte, Unclosed, Unopened, TooDeep, Shape, Unsupported, Atoms, Operations}
 use Rattle.bfgp_tool.specs.declared.numbering.NumberingRefusal.{NumberingRefusal}
 use Rattle.bfgp_tool.specs.declared.numbering.NumberingRefusal.TheVariants as numbering
 use Rattle.bfgp_tool.specs.declared.reply.Reply.{Reply}
@@ -27,6 +29,7 @@ fault_text (TooDeep position) = codes "too deep " ++ decimal position
 fault_text (Shape position) = codes "shape " ++ decimal position
 fault_text (Unsupported position) = codes "unsupported " ++ decimal position
 fault_text (Atoms count) = codes "atoms " ++ decimal count
+fault_text (Operations count) = codes "operations " ++ decimal count
 
 -- the line for a fault of the file with this name
 abbrev pub fault_line : List ℕ → Fault → List ℕ
@@ -60,6 +63,10 @@ numbering_fault numbering.OutOfMemory = None
 abbrev pub ground_fault : GroundRefusal → Option Fault
 ground_fault (grounded.TooManyAtoms count) = Some (Atoms count)
 ground_fault grounded.OutOfMemory = None
+
+abbrev pub machine_fault : MachineRefusal → Option Fault
+machine_fault (made.TooManyOps count) = Some (Operations count)
+machine_fault made.OutOfMemory = None
 
 -- the reply tells the fault that a refusal is
 abbrev pub Tells : {E : Type 0} → (E → Option Fault) → List ℕ → E → Reply → Type 0

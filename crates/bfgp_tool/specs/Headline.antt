@@ -1,5 +1,6 @@
--- The headline for one line, in the words of planning.
-use Rattle.std.specs.Prelude.{◌≡◌, ◌<◌, ◌≤◌, ℕ, List, Option, Some}
+-- The headline, in the words of planning.
+use Rattle.std.specs.Prelude.{◌≡◌, ◌+◌, ◌<◌, ◌≤◌, ℕ, List, map, length, slice_get, All, Option, Some, None}
+use Rattle.std.specs.List.{AllZip}
 use Rattle.bfgp_outside.specs.Shelf.{Files}
 use Rattle.bfgp_outside.specs.Sink.{Appends}
 use Rattle.pddl_parser.specs.declared.texts.DomainText.{DomainText}
@@ -7,16 +8,36 @@ use Rattle.pddl_parser.specs.declared.texts.ProblemText.{ProblemText}
 use Rattle.pddl_parser.specs.Replies.{HasDomain, HasProblem}
 use Rattle.ground_state.specs.declared.parts.TaskParts.{TaskParts}
 use Rattle.ground_state.specs.declared.parts.InstanceParts.{InstanceParts}
+use Rattle.ground_state.specs.Ground.{ground_of, Holds}
+use Rattle.program_model.specs.Program.{Program, IsProgram}
+use Rattle.program_model.specs.Run.{Config, at}
+use Rattle.program_model.specs.Semantics.{Semantics}
+use Rattle.pointer_machine.specs.declared.pointing.Pointing.{Pointing}
+use Rattle.pointer_machine.specs.Operations.{operations}
+use Rattle.pointer_machine.specs.Meaning.{meaning}
+use Rattle.pointer_machine.specs.Texts.{operation_texts}
+use Rattle.synthesis.specs.declared.limits.TheConstants.{BUDGET, RUN_LIMIT}
+use Rattle.synthesis.specs.declared.evidence.Answer.{Answer}
+use Rattle.synthesis.specs.declared.evidence.Outcome.TheVariants as outcomes
+use Rattle.synthesis.specs.Search.{plain}
+use Rattle.synthesis.specs.Answers.{IsAnswer}
 use Rattle.bfgp_tool.specs.declared.job.Job.{Job}
 use Rattle.bfgp_tool.specs.declared.status.Status.{Status}
 use Rattle.bfgp_tool.specs.declared.status.Status.TheVariants.{Done, No}
 use Rattle.bfgp_tool.specs.Words.{JobOf}
 use Rattle.bfgp_tool.specs.Numbering.{TaskOf, InstanceOf}
-use Rattle.bfgp_tool.specs.Programs.{Program, IsProgram, Solves}
-use Rattle.bfgp_tool.specs.Document.{solved_document, refuted_document}
+use Rattle.bfgp_tool.specs.Document.{document}
 
--- the words name a domain file and an instance file, and these hold the texts of an instance
-pub record Poses (words : List (List ℕ)) (files : Files) (instance : InstanceParts) : Type 0 where
+-- a file holds the text of an instance over a domain
+pub record HoldsInstance (files : Files) (domain : DomainText) (name : List ℕ) (instance : InstanceParts) : Type 0 where
+  pub bytes : List ℕ
+  pub held : files name ≡ Some bytes
+  pub problem : ProblemText
+  pub reads : HasProblem bytes problem
+  pub instance_is : InstanceOf domain problem instance
+
+-- the words name a domain file and instance files, and these hold the texts of a task and of instances of it
+pub record Poses (words : List (List ℕ)) (files : Files) : Type 0 where
   pub job : Job
   pub job_is : JobOf words job
   pub domain_bytes : List ℕ
@@ -25,34 +46,63 @@ pub record Poses (words : List (List ℕ)) (files : Files) (instance : InstanceP
   pub domain_reads : HasDomain domain_bytes domain
   pub task : TaskParts
   pub task_is : TaskOf domain task
-  pub instance_bytes : List ℕ
-  pub instance_held : files job.instance ≡ Some instance_bytes
-  pub problem : ProblemText
-  pub problem_reads : HasProblem instance_bytes problem
-  pub instance_is : InstanceOf domain problem instance
+  pub instances : List InstanceParts
+  pub instances_are : AllZip (HoldsInstance files domain) job.instances instances
 
--- what was written gives a program of at most one line that solves the instance, with the steps of its run, and no
--- program with fewer lines does
+-- the machine over these instances and so many pointers
+abbrev pub machine_of : TaskParts → List InstanceParts → ℕ → Semantics Pointing
+machine_of task instances pointers = meaning task (map (ground_of task) instances) pointers
+
+-- after so many steps the program's run on the instance of a number stands on its last line, in a state in which every fact of
+-- the goal is true
+pub record EndsInGoal (task : TaskParts) (instances : List InstanceParts) (pointers : ℕ) (program : Program) (t : ℕ) (instance : InstanceParts) (steps : ℕ) : Type 0 where
+  pub config : Config Pointing
+  pub comes : at (machine_of task instances pointers) program t steps ≡ Some config
+  pub last : config.line + 1 ≡ length program
+  pub met : All (Holds (ground_of task instance) config.value.atoms) instance.goal
+
+-- the program's run on every instance comes to stand so
+abbrev pub SolvesEach : TaskParts → List InstanceParts → ℕ → Program → Type 0
+SolvesEach task instances pointers program = (t : ℕ) (instance : InstanceParts) → slice_get instances t ≡ Some instance → (steps : ℕ) × EndsInGoal task instances pointers program t instance steps
+
+-- these are the steps after which the program's runs stand so, on the instances in order
+pub record AreEndsInGoal (task : TaskParts) (instances : List InstanceParts) (pointers : ℕ) (program : Program) (ends : List ℕ) : Type 0 where
+  pub count : length ends ≡ length instances
+  pub each : (t steps : ℕ) (instance : InstanceParts) → slice_get instances t ≡ Some instance → slice_get ends t ≡ Some steps → EndsInGoal task instances pointers program t instance steps
+
+-- a program over the operations of the task and so many pointers
+abbrev pub IsProgramOver : TaskParts → ℕ → Program → Type 0
+IsProgramOver task pointers program = IsProgram (length (operations task pointers)) program
+
+-- what was written is the document of the search's answer, with a program of at most as many lines as were asked for, which
+-- solves every instance after as many steps as are told, and no program with fewer lines over the same pointers does
 pub record FindsLeast (words : List (List ℕ)) (files : Files) (old new : Option (List ℕ)) : Type 0 where
-  pub instance : InstanceParts
-  pub posed : Poses words files instance
-  pub lines : ℕ
+  pub posed : Poses words files
   pub program : Program
-  pub is_program : IsProgram lines program
-  pub at_most : lines ≤ 1
-  pub solves : Solves program instance
-  pub least : (fewer : ℕ) (other : Program) → fewer < lines → IsProgram fewer other → Solves other instance → ⊥
-  pub written : Appends old new (solved_document program solves.steps)
+  pub is_program : IsProgramOver posed.task posed.job.pointers program
+  pub at_most : length program ≤ posed.job.lines
+  pub solves : SolvesEach posed.task posed.instances posed.job.pointers program
+  pub least : (other : Program) → IsProgramOver posed.task posed.job.pointers other → length other < length program → SolvesEach posed.task posed.instances posed.job.pointers other → ⊥
+  pub answer : Answer
+  pub found : answer.outcome ≡ outcomes.Program (length program)
+  pub given : answer.program ≡ Some program
+  pub ends : AreEndsInGoal posed.task posed.instances posed.job.pointers program answer.ends
+  pub searched : IsAnswer (plain (machine_of posed.task posed.instances posed.job.pointers) RUN_LIMIT) BUDGET posed.job.lines answer
+  pub written : Appends old new (document (operation_texts posed.task posed.job.pointers) answer)
 
--- no program of at most one line solves the instance, and what was written says so
+-- what was written is the document of the search's answer, with the verdict that there is none, and no program of at most as
+-- many lines as were asked for solves every instance
 pub record RefutesAll (words : List (List ℕ)) (files : Files) (old new : Option (List ℕ)) : Type 0 where
-  pub instance : InstanceParts
-  pub posed : Poses words files instance
-  pub none : (lines : ℕ) (program : Program) → lines ≤ 1 → IsProgram lines program → Solves program instance → ⊥
-  pub written : Appends old new refuted_document
+  pub posed : Poses words files
+  pub none : (program : Program) → IsProgramOver posed.task posed.job.pointers program → length program ≤ posed.job.lines → SolvesEach posed.task posed.instances posed.job.pointers program → ⊥
+  pub answer : Answer
+  pub nothing : answer.outcome ≡ outcomes.Nothing
+  pub no_program : answer.program ≡ None
+  pub searched : IsAnswer (plain (machine_of posed.task posed.instances posed.job.pointers) RUN_LIMIT) BUDGET posed.job.lines answer
+  pub written : Appends old new (document (operation_texts posed.task posed.job.pointers) answer)
 
--- with status 0 the written program solves and none with fewer lines does; with status 1 no program of at most one line
--- does
+-- with status 0 the written program solves and none with fewer lines does; with status 1 no program of at most as many lines
+-- as were asked for does
 abbrev pub Headline : List (List ℕ) → Files → Status → Option (List ℕ) → Option (List ℕ) → Type 0
 Headline words files Done old new = FindsLeast words files old new
 Headline words files No old new = RefutesAll words files old new

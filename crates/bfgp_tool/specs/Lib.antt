@@ -2,7 +2,6 @@ pub mod Words
 pub mod Faults
 pub mod Steps
 pub mod Numbering
-pub mod Programs
 pub mod Document
 pub mod Due
 pub mod Answers

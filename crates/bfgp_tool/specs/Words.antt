@@ -1,7 +1,9 @@
 -- The words of a command, and the text that is written where they are no job.
-use Rattle.std.specs.Prelude.{◌≡◌, ℕ, Bool, false, not, ◌==◌, List, [], ◌∷◌, IsTrue, codes, Result}
+use Rattle.std.specs.Prelude.{◌≡◌, ℕ, ◌<◌, ◌≤◌, Bool, false, not, ◌==◌, List, [], ◌∷◌, length, All, IsTrue, codes, decimal, Result}
 use Rattle.std.specs.Prelude.{Ok, Err}
 use Rattle.flag_rules.specs.Line.{lines_of}
+use Rattle.program_model.specs.declared.machine.TheConstants.{MAX_INSTANCES, MAX_POINTERS}
+use Rattle.bfgp_tool.specs.declared.job.TheConstants.{MAX_LINES_ASKED}
 use Rattle.bfgp_tool.specs.declared.job.Job.{Job}
 use Rattle.bfgp_tool.specs.declared.job.JobRefusal.{JobRefusal}
 use Rattle.bfgp_tool.specs.declared.job.JobRefusal.TheVariants.{Usage, OutOfMemory}
@@ -11,11 +13,21 @@ abbrev pub is_file_name : List ℕ → Bool
 is_file_name [] = false
 is_file_name (first ∷ _) = not (first == 45)
 
--- the words are those of the job: so far `synth` over one pointer, one line and one instance
+-- the numbers of a job are within their limits
+pub record KeepsLimits (job : Job) : Type 0 where
+  pub some_pointers : 0 < job.pointers
+  pub few_pointers : job.pointers ≤ MAX_POINTERS
+  pub some_lines : 0 < job.lines
+  pub few_lines : job.lines ≤ MAX_LINES_ASKED
+  pub some_instances : 0 < length job.instances
+  pub few_instances : length job.instances ≤ MAX_INSTANCES
+
+-- the words are those of the job: so far `synth` over some pointers, lines and instances, with the options in this order
 pub record JobOf (words : List (List ℕ)) (job : Job) : Type 0 where
-  pub spelled : words ≡ codes "synth" ∷ codes "--pointers" ∷ codes "1" ∷ codes "--lines" ∷ codes "1" ∷ job.domain ∷ job.instance ∷ []
+  pub spelled : words ≡ codes "synth" ∷ codes "--pointers" ∷ decimal job.pointers ∷ codes "--lines" ∷ decimal job.lines ∷ job.domain ∷ job.instances
+  pub limits : KeepsLimits job
   pub domain : IsTrue (is_file_name job.domain)
-  pub instance : IsTrue (is_file_name job.instance)
+  pub instances : All (λ name. IsTrue (is_file_name name)) job.instances
 
 -- what reading the words may answer: their job, or that they are none
 abbrev pub IsJobReply : List (List ℕ) → Result Job JobRefusal → Type 0

@@ -1,13 +1,12 @@
-ghost use Rattle.std.specs.Prelude.{◌≡◌, ◌<◌, ◌≤◌, ◌^◌, length, map, All, IfOk, IfErr};
-ghost use Rattle.flag_rules.specs.Name.{IsName};
-ghost use Rattle.pddl_parser.specs.Replies.{IsDomainReply};
+ghost use Rattle.std.specs.Prelude.{◌≤◌, length, IfOk, IfErr};
+ghost use Rattle.pddl_parser.specs.Replies.{IsDomainReply, IsDomainSpelled};
 ghost use Rattle.bfgp_tool.specs.declared.input.TheConstants.{MAX_INPUT_BYTES};
-ghost use Rattle.bfgp_tool.specs.Numbering.{head_of, IsTaskReply};
+ghost use Rattle.bfgp_tool.specs.Numbering.{IsTaskReply};
 ghost use Rattle.bfgp_tool.specs.Faults.{parsing_fault, numbering_fault};
 ghost use Rattle.bfgp_tool.specs.Steps.{or_tell, Gives};
 ghost use Rattle.bfgp_tool.specs.Due.{domain_due};
 ghost use Rattle.bfgp_tool.specs.Answers.{TellsOther};
-ghost use Rattle.bfgp_tool.specs.Domains.{IsNumberedDomain};
+ghost use Rattle.bfgp_tool.specs.Domains.{IsShortDomain, IsNumberedDomain};
 
 use crate::fault::{Fault, refuse};
 use crate::numbering::task_parts;
@@ -38,8 +37,8 @@ pub fn domain_of(alloc: Global, name: &[u8], bytes: &[u8]) -> Result<Domain, Hal
 fn domain_text(alloc: Global, name: &[u8], bytes: &[u8]) -> Result<DomainText, Halt>
     requires { length bytes.now ≤ MAX_INPUT_BYTES }
     ensures due { Gives (or_tell name.now parsing_fault (IsDomainReply bytes.now)) result }
-    ensures few { IfOk result (λ text. length text.predicates < 2 ^ 32) }
-    ensures names { IfOk result (λ text. All IsName (map head_of text.predicates)) }
+    ensures spelled { IfOk result IsDomainSpelled }
+    ensures short { IfOk result IsShortDomain }
     ensures cause { IfErr result TellsOther }
 {
     match pddl_parser::domain(alloc, bytes) {
@@ -49,8 +48,8 @@ fn domain_text(alloc: Global, name: &[u8], bytes: &[u8]) -> Result<DomainText, H
 }
 
 fn task_of(alloc: Global, name: &[u8], domain: &DomainText) -> Result<Task, Halt>
-    requires few { length domain.now.predicates < 2 ^ 32 }
-    requires names { All IsName (map head_of domain.now.predicates) }
+    requires spelled { IsDomainSpelled domain.now }
+    requires short { IsShortDomain domain.now }
     ensures due { Gives (or_tell name.now numbering_fault (IsTaskReply domain.now)) result }
     ensures cause { IfErr result TellsOther }
 {

@@ -7,6 +7,7 @@ use crate::status::Status;
 use flag_rules::{OutOfMemory, Text};
 use ground_state::GroundRefusal;
 use pddl_parser::ParseRefusal;
+use pointer_machine::MachineRefusal;
 use std::alloc::Global;
 use std::fmt;
 
@@ -31,10 +32,12 @@ pub enum Fault {
     Unsupported(u32),
     /// The instance has this many ground atoms, which is more than the limit.
     Atoms(u64),
+    /// The domain has this many operations over the pointers, which is more than the limit.
+    Operations(u64),
 }
 
 impl Fault {
-    ghost use Rattle.bfgp_tool.specs.Faults.{parsing_fault, numbering_fault, ground_fault};
+    ghost use Rattle.bfgp_tool.specs.Faults.{parsing_fault, numbering_fault, ground_fault, machine_fault};
 
     /// The fault that a refusal of a text is, unless it is for want of memory.
     pub fn of_text(refusal: ParseRefusal) -> Option<Fault>
@@ -70,6 +73,16 @@ impl Fault {
             GroundRefusal::OutOfMemory => None,
         }
     }
+
+    /// The fault that a refusal to make a machine is, unless it is for want of memory.
+    pub fn of_machine(refusal: MachineRefusal) -> Option<Fault>
+        ensures { result ≡ machine_fault refusal }
+    {
+        match refusal {
+            MachineRefusal::TooManyOps(count) => Some(Fault::Operations(count)),
+            MachineRefusal::OutOfMemory => None,
+        }
+    }
 }
 
 impl fmt::Display for Fault {
@@ -89,6 +102,7 @@ impl fmt::Display for Fault {
             Fault::Shape(position) => write!(f, "shape {position}"),
             Fault::Unsupported(position) => write!(f, "unsupported {position}"),
             Fault::Atoms(count) => write!(f, "atoms {count}"),
+            Fault::Operations(count) => write!(f, "operations {count}"),
         }
     }
 }

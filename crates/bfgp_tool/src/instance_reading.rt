@@ -1,38 +1,64 @@
 ghost use Rattle.std.specs.Prelude.{◌≡◌, ◌<◌, ◌≤◌, ◌^◌, length, map, All, IfOk, IfErr};
 ghost use Rattle.flag_rules.specs.Name.{IsName};
+ghost use Rattle.bfgp_outside.specs.Shelf.{Knowing, GoesOn};
 ghost use Rattle.pddl_parser.specs.Replies.{IsProblemReply};
 ghost use Rattle.ground_state.specs.Instance.{IsInstance};
+ghost use Rattle.ground_state.specs.Action.{IsTableOf};
 ghost use Rattle.bfgp_tool.specs.declared.input.TheConstants.{MAX_INPUT_BYTES};
 ghost use Rattle.bfgp_tool.specs.Numbering.{name_of, IsInstanceReply};
 ghost use Rattle.bfgp_tool.specs.Grounding.{IsGroundReply};
 ghost use Rattle.bfgp_tool.specs.Faults.{parsing_fault, numbering_fault, ground_fault};
 ghost use Rattle.bfgp_tool.specs.Steps.{or_tell, Gives};
-ghost use Rattle.bfgp_tool.specs.Due.{answer_due, one_line_reply};
-ghost use Rattle.bfgp_tool.specs.Answers.{TellsOther, IsVerdict};
+ghost use Rattle.bfgp_tool.specs.Due.{table_due, tables_due};
+ghost use Rattle.bfgp_tool.specs.Answers.{HaltCause, TellsOther};
 ghost use Rattle.bfgp_tool.specs.Domains.{IsNumberedDomain};
 
-use crate::document::{refuted, solved};
 use crate::domain_reading::Domain;
 use crate::fault::{Fault, refuse};
+use crate::input::read_input;
 use crate::numbering::instance_parts;
-use crate::reply::{Halt, Reply};
-use flag_rules::OutOfMemory;
-use ground_state::{AtomTable, Atoms, Instance};
+use crate::reply::Halt;
+use bfgp_outside::Shelf;
+use flag_rules::{List, Text};
+use ground_state::{AtomTable, Instance};
 use pddl_parser::ProblemText;
 use std::alloc::Global;
 
-/// Reads the bytes of an instance file over a domain, and answers whether the program `end` solves it.
-pub fn answer_of(alloc: Global, name: &[u8], domain: &Domain, bytes: &[u8]) -> Result<Reply, Halt>
+/// Reads the instance files over a domain, in order, and gives the tables of their ground atoms.
+pub fn tables_of<S: Shelf>(
+    alloc: Global,
+    shelf: &mut S,
+    domain: &Domain,
+    names: &[Text],
+) -> Result<List<AtomTable>, Halt>
+    requires { IsNumberedDomain domain.now }
+    ensures due { Knowing (S.files shelf.old) (λ files.
+        Gives (tables_due files domain.now names.now) result) }
+    ensures fit { IfOk result (λ tables. All (IsTableOf domain.now.task) tables) }
+    ensures count { IfOk result (λ tables. length tables ≡ length names.now) }
+    ensures cause { IfErr result
+        (HaltCause (S.faults shelf.old) (S.faults shelf.new) (S.absences shelf.old) (S.absences shelf.new)) }
+    ensures goes_on { GoesOn S.files S.faults S.absences shelf.old shelf.new }
+{
+    let mut tables = List::new(alloc);
+    for name in names {
+        let bytes = read_input(alloc, shelf, name.as_slice())?;
+        tables.push(table_of(alloc, name.as_slice(), domain, bytes.as_slice())?)?;
+    }
+    Ok(tables)
+}
+
+/// Reads the bytes of an instance file over a domain, and gives the table of its ground atoms.
+fn table_of(alloc: Global, name: &[u8], domain: &Domain, bytes: &[u8]) -> Result<AtomTable, Halt>
     requires short { length bytes.now ≤ MAX_INPUT_BYTES }
     requires numbered { IsNumberedDomain domain.now }
-    ensures due { Gives (answer_due name.now domain.now bytes.now) result }
-    ensures verdict { IfOk result (λ reply. IsVerdict reply.status) }
+    ensures due { Gives (table_due name.now domain.now bytes.now) result }
+    ensures fits { IfOk result (IsTableOf domain.now.task) }
     ensures cause { IfErr result TellsOther }
 {
     let text = problem_text(alloc, name, bytes)?;
     let instance = instance_of(alloc, name, domain, &text)?;
-    let table = table_of(alloc, name, domain, &instance)?;
-    Ok(answer(alloc, &table)?)
+    ground_atoms_of(alloc, name, domain, &instance)
 }
 
 fn problem_text(alloc: Global, name: &[u8], bytes: &[u8]) -> Result<ProblemText, Halt>
@@ -65,7 +91,7 @@ fn instance_of(
     }
 }
 
-fn table_of(
+fn ground_atoms_of(
     alloc: Global,
     name: &[u8],
     domain: &Domain,
@@ -73,23 +99,11 @@ fn table_of(
 ) -> Result<AtomTable, Halt>
     requires { IsInstance domain.now.task instance.now }
     ensures due { Gives (or_tell name.now ground_fault (IsGroundReply domain.now.task instance.now)) result }
+    ensures fits { IfOk result (IsTableOf domain.now.task) }
     ensures cause { IfErr result TellsOther }
 {
     match AtomTable::of(alloc, &domain.task, instance) {
         Ok(table) => Ok(table),
         Err(refusal) => Err(refuse(alloc, name, Fault::of_grounding(refusal))),
-    }
-}
-
-/// The one program of one line, `end`, solves exactly where no atom of the goal is missing at the start.
-fn answer(alloc: Global, table: &AtomTable) -> Result<Reply, OutOfMemory>
-    ensures reply { IfOk result (λ reply. reply ≡ one_line_reply table.now) }
-    ensures verdict { IfOk result (λ reply. IsVerdict reply.status) }
-{
-    let atoms = Atoms::start(alloc, table)?;
-    if atoms.missing(table) == 0 {
-        solved(alloc)
-    } else {
-        refuted(alloc)
     }
 }

@@ -1,7 +1,7 @@
 ghost use Rattle.std.specs.Prelude.{◌≡◌, ◌≢◌, ℕ, ◌<◌, ◌↔◌, map, length, slice_get, Some, IsTrue, IfSome, OnSome, IfNone};
 ghost use Rattle.bfgp_tool.specs.Numbering.{AreApart};
 
-use pddl_parser::{PredText, Typed};
+use pddl_parser::{ActionText, PredText, Typed};
 
 /// What is found by a name.
 pub trait Named {
@@ -20,6 +20,16 @@ impl Named for PredText {
 
     fn name(&self) -> &[u8] {
         self.head.text.as_slice()
+    }
+}
+
+impl Named for ActionText {
+    ghost use Rattle.bfgp_tool.specs.Numbering.{action_name_of};
+
+    ghost name = { action_name_of };
+
+    fn name(&self) -> &[u8] {
+        self.name.text.as_slice()
     }
 }
 

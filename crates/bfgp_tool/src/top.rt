@@ -1,6 +1,7 @@
 ghost use Rattle.std.specs.Prelude.{◌≡◌, ◌≢◌, ◌≤◌, map, string_bytes, Err, IfOk, IfErr};
 ghost use Rattle.bfgp_outside.specs.Causes.{Rose};
 ghost use Rattle.bfgp_outside.specs.Shelf.{Knowing, GoesOn};
+ghost use Rattle.bfgp_tool.specs.Words.{KeepsLimits};
 ghost use Rattle.bfgp_tool.specs.Steps.{Gives};
 ghost use Rattle.bfgp_tool.specs.Due.{Due, job_due};
 ghost use Rattle.bfgp_tool.specs.Answers.{Answers, IsSilent, UsageIsExact, InputCause, IsReplyStatus, Writes, OnReply, RepliesUsage, TellsFault, IsVerdict, HaltCause};
@@ -22,8 +23,8 @@ pub fn bfgp<S: Shelf, K: Sink>(
     shelf: &mut S,
     out: &mut K,
 ) -> Status
-    // With status 0 the written program solves the instance that the words pose, and none with fewer lines does; with
-    // status 1 no program of at most one line does.
+    // With status 0 the written program solves every instance that the words pose, and none with fewer lines does; with
+    // status 1 no program of at most as many lines as were asked for does.
     ensures headline { Knowing (S.files shelf.old) (λ files.
         Headline (map string_bytes words.now) files result (K.written out.old) (K.written out.new)) }
 
@@ -41,8 +42,6 @@ pub fn bfgp<S: Shelf, K: Sink>(
     ensures silent { IsSilent result (K.written out.old) (K.written out.new) }
     ensures shelf { GoesOn S.files S.faults S.absences shelf.old shelf.new }
     ensures sink { K.faults out.old ≤ K.faults out.new }
-    ensures expansions { result ≢ Status.SpentExpansions }
-    ensures run { result ≢ Status.SpentRun }
 {
     match reply_to(alloc, words, shelf) {
         Ok(reply) => write(out, &reply),
@@ -71,13 +70,14 @@ fn reply_to<S: Shelf>(alloc: Global, words: &[String], shelf: &mut S) -> Result<
 }
 
 fn run<S: Shelf>(alloc: Global, shelf: &mut S, job: &Job) -> Result<Reply, Halt>
+    requires { KeepsLimits job.now }
     ensures due { Knowing (S.files shelf.old) (λ files. Gives (job_due files job.now) result) }
     ensures verdict { IfOk result (λ reply. IsVerdict reply.status) }
     ensures cause { IfErr result
         (HaltCause (S.faults shelf.old) (S.faults shelf.new) (S.absences shelf.old) (S.absences shelf.new)) }
     ensures goes_on { GoesOn S.files S.faults S.absences shelf.old shelf.new }
 {
-    synth(alloc, shelf, job.domain.as_slice(), job.instance.as_slice())
+    synth(alloc, shelf, job)
 }
 
 fn write<K: Sink>(out: &mut K, reply: &Reply) -> Status

@@ -5,6 +5,7 @@ use Rattle.pddl_parser.specs.Replies.{IsDomainReply}
 use Rattle.bfgp_tool.specs.Numbering.{IsTaskReply}
 use Rattle.bfgp_tool.specs.Steps.{or_tell, goes_on}
 use Rattle.bfgp_tool.proofs.Chain.{then_next, then_end}
+use Rattle.bfgp_tool.proofs.Validity.{few_predicates}
 use Rattle.bfgp_tool.proofs.Sequels.{after_domain_text, after_task}
 use Rattle.bfgp_tool.proofs.domain_reading.domain_of.Goals as goal
 
@@ -21,3 +22,6 @@ returns-in_err-task-clause-due c =
 
 pub returns-clause-due : goal.returns-clause-due
 returns-clause-due c = goes_on c.in_ok-text.ensures.due (goes_on c.in_ok-task.ensures.due refl)
+
+pub returns-clause-numbered : goal.returns-clause-numbered
+returns-clause-numbered c = record { numbered = c.in_ok-task.ensures.due; few = few_predicates c.in_ok-text.text c.in_ok-text.ensures.short }
