@@ -1,3 +1,4 @@
-; Lamps in a row. So far the planner reads predicates alone; the action that lights a lamp comes later.
+; Lamps that are lit one by one. Lighting a lamp asks for nothing.
 (define (domain lights)
-  (:predicates (lit ?lamp)))
+  (:predicates (lit ?lamp))
+  (:action light :parameters (?lamp) :precondition () :effect (lit ?lamp)))

@@ -1,6 +1,6 @@
-; The lamp of the goal is not lit at the start: no program of one line solves this instance.
+; One lamp, which is not lit at the start.
 (define (problem unlit)
   (:domain lights)
-  (:objects hall porch)
-  (:init (lit hall))
+  (:objects porch)
+  (:init)
   (:goal (lit porch)))
