@@ -5,6 +5,7 @@ use Rattle.std.proofs.lemmas.List.{length-map, map_more, get_or_default}
 use Rattle.std.proofs.lemmas.Option.{slice_get_within}
 use Rattle.std.proofs.lemmas.List.Elements.{All-map}
 use Rattle.std.proofs.lemmas.List.Sums.{AllPass-from_list_all, list_all-from_AllPass}
+use Rattle.std.proofs.lemmas.Bool.{and_parts, and_from}
 use Rattle.ground_state.specs.declared.parts.ObjectEntry.{ObjectEntry}
 use Rattle.ground_state.specs.declared.parts.TaskParts.{TaskParts}
 use Rattle.ground_state.specs.declared.parts.SchemaEntry.{SchemaEntry}
@@ -18,6 +19,7 @@ use Rattle.ground_state.specs.State.{State, those_of, is_true, true_atoms, with_
 use Rattle.ground_state.specs.Ground.{Ground}
 use Rattle.ground_state.specs.Action.{object_of, grounded, schema_of, IsBound, IsLiftedAt, IsTableOf, IsAction, Applicable, is_applicable}
 use Rattle.ground_state.proofs.Places.{atom_once, length-ground_atoms}
+use Rattle.ground_state.proofs.Typing.{typed_from_test, test_from_typed}
 use Rattle.ground_state.proofs.States.{is_among, Contains-from_test, test_from_Contains, none_listed, set_adds, true_at_place, length-those_of}
 
 -- ---- adding and deleting, place by place
@@ -107,16 +109,6 @@ truth_at_place objects arities state fact n b here on =
     let exactly = true_at_place objects arities state fact n b here on in
     same_truth b _ (λ yes. test_from_Contains _ fact (exactly.0 yes)) (λ yes. exactly.1 (Contains-from_test _ fact yes))
 
--- the test of an action decides where it is applicable
-pub applicable_exactly : (task : TaskParts) (table : Ground) (schema : ℕ) (args : List ℕ) (state : State) (b : Bool) → b ≡ is_applicable task table schema args state → IsTrue b ↔ Applicable task table schema args state
-applicable_exactly task table schema args state b tested =
-    let among = true_atoms (length table.object_types) table.arities state in
-    let test = λ (atom : Lifted). is_among among (grounded args atom) in
-    let pre = (schema_of task schema).pre in (
-      (λ yes. record { pre = λ k d within. Contains-from_test among _ (AllPass-from_list_all test pre (sym tested ∙ yes) k d within) }),
-      (λ held. tested ∙ list_all-from_AllPass test pre (λ k d within. test_from_Contains among _ (held.pre k d within))),
-    )
-
 -- ---- the atoms of a task's schemas at objects of a table
 bound : (params constants : ℕ) (term : Term) → IsTerm params constants term → IsBound params term
 bound params constants (Param place) fits = fits
@@ -155,3 +147,25 @@ action_fits task table number args fit made action =
     let fits = fit.schemas.each number _ action.known in
     let all = λ (atoms : List Lifted) (valid : AreLifted task (length schema.params) atoms) (k : ℕ) (d : Lifted) (within : k < length atoms). lifted_at task table args (get_or atoms k d) made action.objects (rw action.count (valid.each k d within)) in
     record { pre = all schema.pre fits.pre; add = all schema.add fits.add; del = all schema.del fits.del }
+
+-- ---- where an action is applicable
+pub object_types_known : (task : TaskParts) (table : Ground) → IsTableOf task table → All (λ number. number < length task.types) table.object_types
+object_types_known task table made =
+    let P : ℕ → Type 0 = λ number. number < length task.types in
+    rw made.made (All-map P (λ (entry : ObjectEntry). entry.of) made.instance.objects made.fits.objects.in_range)
+
+-- the test of an action decides where it is applicable
+pub applicable_exactly : (task : TaskParts) (table : Ground) (schema : ℕ) (args : List ℕ) (state : State) (b : Bool) → IsTask task → IsTableOf task table → IsAction task table schema args → b ≡ is_applicable task table schema args state → IsTrue b ↔ Applicable task table schema args state
+applicable_exactly task table schema args state b fit made action tested =
+    let among = true_atoms (length table.object_types) table.arities state in
+    let test = λ (atom : Lifted). is_among among (grounded args atom) in
+    let entry = schema_of task schema in
+    let known = object_types_known task table made in (
+      (λ yes. let parts = and_parts _ _ (sym tested ∙ yes) in record {
+        types = typed_from_test task.types table.object_types args entry.params fit.types known action.objects action.count parts.0;
+        pre = λ k d within. Contains-from_test among _ (AllPass-from_list_all test entry.pre parts.1 k d within);
+      }),
+      (λ held. tested ∙ and_from _ _
+          (test_from_typed task.types table.object_types args entry.params fit.types known action.objects held.types)
+          (list_all-from_AllPass test entry.pre (λ k d within. test_from_Contains among _ (held.pre k d within)))),
+    )

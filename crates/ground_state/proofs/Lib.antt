@@ -4,4 +4,5 @@ pub mod Counts
 pub mod States
 pub mod LawLemmas
 pub mod MetGoals
+pub mod Typing
 pub mod Acting

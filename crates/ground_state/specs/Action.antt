@@ -1,6 +1,7 @@
 -- Acting: the atoms of an action schema at given objects, where an action is applicable, and the state that it leads to.
-use Rattle.std.specs.Prelude.{ℕ, ◌≡◌, ◌<◌, Bool, if◌then◌else◌, List, [], map, length, slice_index, slice_index_or, All, ⊤}
-use Rattle.std.specs.List.{list_all}
+use Rattle.std.specs.Prelude.{ℕ, ◌≡◌, ◌<◌, Bool, ◌&&◌, if◌then◌else◌, List, [], map, zip, length, slice_index, slice_index_or, All, ⊤}
+use Rattle.std.specs.List.{list_all, AllZip}
+use Rattle.ground_state.specs.declared.parts.TypeEntry.{TypeEntry}
 use Rattle.ground_state.specs.declared.parts.TaskParts.{TaskParts}
 use Rattle.ground_state.specs.declared.parts.InstanceParts.{InstanceParts}
 use Rattle.ground_state.specs.declared.parts.SchemaEntry.{SchemaEntry}
@@ -8,6 +9,7 @@ use Rattle.ground_state.specs.declared.parts.Lifted.{Lifted}
 use Rattle.ground_state.specs.declared.parts.Term.{Term}
 use Rattle.ground_state.specs.declared.parts.Term.TheVariants.{Param, Object}
 use Rattle.ground_state.specs.declared.parts.Fact.{Fact}
+use Rattle.ground_state.specs.Task.{Reaches, reaches}
 use Rattle.ground_state.specs.Instance.{IsInstance, IsFact}
 use Rattle.ground_state.specs.State.{State, those_of, is_true, with_atoms, without_atoms}
 use Rattle.ground_state.specs.Ground.{Ground, ground_of, Holds}
@@ -51,14 +53,24 @@ pub record IsAction (task : TaskParts) (table : Ground) (schema : ℕ) (args : L
   pub count : length args ≡ length (schema_of task schema).params
   pub objects : All (λ object. object < length table.object_types) args
 
--- every precondition atom at the objects is true in the state; types are not tested yet
+-- the type of an object of the table is this one or stands under it
+abbrev pub IsOfType : TaskParts → Ground → ℕ → ℕ → Type 0
+IsOfType task table object number = Reaches task.types (slice_index table.object_types object) number
+
+-- each object is of its parameter's type, and every precondition atom at the objects is true in the state
 pub record Applicable (task : TaskParts) (table : Ground) (schema : ℕ) (args : List ℕ) (state : State) : Type 0 where
+  pub types : AllZip (IsOfType task table) args (schema_of task schema).params
   pub pre : All (λ atom. Holds table state (grounded args atom)) (schema_of task schema).pre
 
--- whether it is so
+-- whether objects of these types are each of a parameter's type
+abbrev pub are_of_types : List TypeEntry → List ℕ → List ℕ → List ℕ → Bool
+are_of_types types object_types args params = list_all (λ place. reaches types (slice_index object_types place.0) place.1) (zip args params)
+
+-- whether an action is applicable
 abbrev pub is_applicable : TaskParts → Ground → ℕ → List ℕ → State → Bool
 is_applicable task table schema args state =
-    list_all (λ atom. is_true (length table.object_types) table.arities state (grounded args atom)) (schema_of task schema).pre
+    are_of_types task.types table.object_types args (schema_of task schema).params
+    && list_all (λ atom. is_true (length table.object_types) table.arities state (grounded args atom)) (schema_of task schema).pre
 
 -- the state without the deleted atoms, then with the added atoms
 abbrev pub result_of : TaskParts → Ground → ℕ → List ℕ → State → State

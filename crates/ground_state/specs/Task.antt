@@ -1,5 +1,6 @@
 -- When the parts of a planning task fit together.
-use Rattle.std.specs.Prelude.{ℕ, zero, suc, ◌≡◌, ◌≢◌, ◌<◌, ◌≤◌, ◌^◌, List, map, length, slice_get, slice_index, All, AllPairs, Some, codes}
+use Rattle.std.specs.Prelude.{ℕ, zero, suc, ◌≡◌, ◌≢◌, ◌==◌, ◌<◌, ◌≤◌, ◌^◌, Bool, List, map, length, slice_get, slice_index, All, AllPairs, Some, codes}
+use Rattle.std.specs.List.{list_any, range_with_len}
 use Rattle.flag_rules.specs.Name.{IsName}
 use Rattle.ground_state.specs.declared.parts.TypeEntry.{TypeEntry}
 use Rattle.ground_state.specs.declared.parts.ObjectEntry.{ObjectEntry}
@@ -23,6 +24,10 @@ ancestor types (suc steps) number = slice_index (map (λ (entry : TypeEntry). en
 -- a type is another one or stands under it, by parents
 abbrev pub Reaches : List TypeEntry → ℕ → ℕ → Type 0
 Reaches types number above = (steps : ℕ) × (ancestor types steps number ≡ above)
+
+-- whether a type is another one or stands under it by fewer steps than there are types
+abbrev pub reaches : List TypeEntry → ℕ → ℕ → Bool
+reaches types number above = list_any (λ steps. ancestor types steps number == above) (range_with_len 0 (length types))
 
 -- every name is one in lower case, and no two of them are the same
 pub record AreNames (names : List (List ℕ)) : Type 0 where

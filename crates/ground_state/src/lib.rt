@@ -10,11 +10,13 @@ mod parts;
 mod refusal;
 mod table;
 mod task;
+mod types;
 
 pub use action::apply;
 pub use atoms::Atoms;
 pub use laws::{
-    goal_is_met_exactly_where_its_facts_hold, goal_is_met_exactly_where_listed,
+    action_is_applicable_exactly_where_tested, goal_is_met_exactly_where_its_facts_hold,
+    goal_is_met_exactly_where_listed, type_is_reached_exactly_where_tested,
     unmet_goal_has_a_fact_not_listed,
 };
 pub use parts::{

@@ -83,6 +83,13 @@ impl AtomTable {
         self.numbering.objects()
     }
 
+    /// The types of the objects, in their order.
+    pub(crate) fn object_types(&self) -> &[u32]
+        ensures { result.now ≡ self.now.object_types }
+    {
+        self.object_types.as_slice()
+    }
+
     /// How many ground atoms there are, over all objects and without regard to types.
     pub fn atoms(&self) -> u32
         ensures count { result ≡ atoms_in self.now }
