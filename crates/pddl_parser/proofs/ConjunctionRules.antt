@@ -1,7 +1,7 @@
 -- The conjunctions of atoms and of changes are read as the grammar says.
 use Rattle.std.proofs.Common.{◌≡◌, ℕ, ◌+◌, ◌<◌, Bool, true, false, cond, ◌||◌, List, [], ◌∷◌, ◌++◌, length, drop, codes, bytes_eq, refl, sym, ap, ◌∙◌, arith}
 use Rattle.std.proofs.lemmas.List.{append-nil}
-use Rattle.pddl_parser.specs.declared.lexer.Kind.TheVariants.{RightParen, Name}
+use Rattle.pddl_lexer.specs.declared.lexer.Kind.TheVariants.{RightParen, Name}
 use Rattle.pddl_parser.specs.declared.texts.AtomText.{AtomText}
 use Rattle.pddl_parser.specs.declared.formulas.Terms.{Terms}
 use Rattle.pddl_parser.specs.declared.formulas.Terms.TheVariants.{NamesAndVariables}

@@ -1,7 +1,7 @@
 -- Conjunctions of items: how a loop reads them, and that it reads what the grammar says.
 use Rattle.std.proofs.Common.{◌≡◌, ℕ, zero, suc, ◌+◌, ◌-◌, ◌<◌, ◌≤◌, Bool, true, false, cond, List, [], ◌∷◌, ◌++◌, length, drop, codes, Err, refl, sym, ap, ◌∙◌, subst, arith, append_assoc}
 use Rattle.std.proofs.lemmas.List.{append-nil, length-append}
-use Rattle.pddl_parser.specs.declared.lexer.Kind.TheVariants.{RightParen, Name}
+use Rattle.pddl_lexer.specs.declared.lexer.Kind.TheVariants.{RightParen, Name}
 use Rattle.pddl_parser.specs.declared.cursor.Start.{Start}
 use Rattle.pddl_parser.specs.declared.cursor.Start.TheVariants.{Nothing, And, Other}
 use Rattle.pddl_parser.specs.declared.stop.Stop.{Stop}

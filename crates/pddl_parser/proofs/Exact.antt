@@ -1,8 +1,8 @@
 -- The reading of each rule is what the grammar says.
 use Rattle.std.proofs.Common.{◌≡◌, ℕ, ◌+◌, ◌<◌, Bool, true, false, cond, List, [], ◌∷◌, length, codes, refl, arith}
 use Rattle.std.proofs.lemmas.Slice.Eq.{bytes_eq-Decides}
-use Rattle.pddl_parser.specs.declared.lexer.Kind.{Kind}
-use Rattle.pddl_parser.specs.declared.lexer.Kind.TheVariants.{RightParen, Name, Variable}
+use Rattle.pddl_lexer.specs.declared.lexer.Kind.{Kind}
+use Rattle.pddl_lexer.specs.declared.lexer.Kind.TheVariants.{RightParen, Name, Variable}
 use Rattle.pddl_parser.specs.declared.stop.Why.TheVariants.{Unsupported}
 use Rattle.pddl_parser.specs.declared.formulas.Terms.{Terms}
 use Rattle.pddl_parser.specs.declared.formulas.Terms.TheVariants.{Names, NamesAndVariables}

@@ -2,18 +2,12 @@
 use Rattle.std.proofs.Common.{◌≡◌, ℕ, ◌≤◌, Bool, true, false, cond, List, [], ◌∷◌, length, drop, get_or, slice_range, IsTrue, ◌↔◌, ◌&&◌, Decides, bytes_eq, refl, sym, ap, ◌∙◌, arith}
 use Rattle.std.proofs.lemmas.Bool.Decides.{same_from_decides}
 use Rattle.std.proofs.lemmas.Slice.Eq.{bytes_eq-Decides}
-use Rattle.pddl_parser.specs.declared.lexer.Kind.{Kind}
-use Rattle.pddl_parser.specs.declared.lexer.Kind.TheVariants.{LeftParen, RightParen, Name, Variable, Keyword}
+use Rattle.pddl_lexer.specs.declared.lexer.Kind.{Kind}
+use Rattle.pddl_lexer.specs.declared.lexer.Kind.TheVariants.{LeftParen, RightParen, Name, Variable, Keyword}
 use Rattle.pddl_parser.specs.declared.stop.Why.TheVariants.{Shape}
-use Rattle.pddl_parser.specs.declared.lexer.Token.{Token}
-use Rattle.pddl_parser.specs.Lexing.{InOrder}
-use Rattle.pddl_parser.specs.Lexemes.{Lexeme, left, right, name, keyword, lexeme, lower, lexemes, AreWithin}
+use Rattle.pddl_lexer.specs.declared.lexer.Token.{Token}
+use Rattle.pddl_parser.specs.Lexemes.{Lexeme, left, right, name, keyword, lexeme, lower, lexemes}
 use Rattle.pddl_parser.specs.Reading.{Read, got, stuck, and_then, is_of, is_word, word_of, comes, comes_as, mark, literal}
-
--- tokens that stand in order stand within the text
-pub AreWithin-from_InOrder : (bytes : List ℕ) (low : ℕ) (ts : List Token) → InOrder low (length bytes) ts → AreWithin bytes ts
-AreWithin-from_InOrder bytes low [] order = tt
-AreWithin-from_InOrder bytes low (t ∷ ts) order = (omega (arith, order.1), order.2, AreWithin-from_InOrder bytes t.to ts order.3)
 
 -- what a comparison without regard to case says of a word that comes first
 pub comes_as-seen : (bytes : List ℕ) (ts : List Token) (d : Token) (kind : Kind) (text : List ℕ) (found : Bool) → 1 ≤ length ts → (get_or ts 0 d).kind ≡ kind → is_word kind ≡ true → lower text ≡ text → IsTrue found ↔ (lower (slice_range bytes (get_or ts 0 d).from (get_or ts 0 d).to) ≡ lower text) → found ≡ comes_as kind text (lexemes bytes ts)

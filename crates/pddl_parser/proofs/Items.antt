@@ -1,7 +1,7 @@
 -- Lists of items: how a loop reads them, and that it reads what the grammar says.
 use Rattle.std.proofs.Common.{◌≡◌, ℕ, zero, suc, ◌+◌, ◌<◌, Bool, true, false, cond, List, [], ◌∷◌, ◌++◌, length, drop, Err, refl, sym, ap, ◌∙◌, arith}
 use Rattle.std.proofs.lemmas.List.{append-nil}
-use Rattle.pddl_parser.specs.declared.lexer.Kind.TheVariants.{RightParen}
+use Rattle.pddl_lexer.specs.declared.lexer.Kind.TheVariants.{RightParen}
 use Rattle.pddl_parser.specs.declared.stop.Why.{Why}
 use Rattle.pddl_parser.specs.declared.stop.Stop.{Stop}
 use Rattle.pddl_parser.specs.declared.stop.Stop.TheVariants.{Refused, OutOfMemory}

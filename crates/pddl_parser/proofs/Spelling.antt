@@ -6,22 +6,22 @@ use Rattle.std.proofs.lemmas.Bool.Decides.{nat_tests}
 use Rattle.std.proofs.lemmas.List.Elements.{All-nil, All-cons, All-head, All-tail, All-append}
 use Rattle.std.proofs.Math.Numerals.{add-one, one-add}
 use Rattle.flag_rules.specs.Name.{begins_name, is_name_byte, is_small, is_digit, IsName}
-use Rattle.pddl_parser.specs.declared.lexer.Kind.{Kind}
-use Rattle.pddl_parser.specs.declared.lexer.Kind.TheVariants.{Name, Variable}
-use Rattle.pddl_parser.specs.declared.lexer.Token.{Token}
-use Rattle.pddl_parser.specs.declared.lexer.Piece.{Piece}
-use Rattle.pddl_parser.specs.declared.lexer.Piece.TheVariants.{Spelled}
+use Rattle.pddl_lexer.specs.declared.lexer.Kind.{Kind}
+use Rattle.pddl_lexer.specs.declared.lexer.Kind.TheVariants.{Name, Variable}
+use Rattle.pddl_lexer.specs.declared.lexer.Token.{Token}
+use Rattle.pddl_lexer.specs.declared.lexer.Piece.{Piece}
+use Rattle.pddl_lexer.specs.declared.lexer.Piece.TheVariants.{Spelled}
 use Rattle.pddl_parser.specs.declared.texts.Word.{Word}
 use Rattle.pddl_parser.specs.declared.texts.Typed.{Typed}
 use Rattle.pddl_parser.specs.declared.texts.DomainText.{DomainText}
 use Rattle.pddl_parser.specs.declared.texts.ProblemText.{ProblemText}
 use Rattle.pddl_parser.specs.declared.formulas.AtomChange.{AtomChange}
 use Rattle.pddl_parser.specs.declared.formulas.AtomChange.TheVariants.{Added, Deleted}
-use Rattle.pddl_parser.specs.Lexing.{is_blank, starts_name, name_len, piece_of, tokens_of}
+use Rattle.pddl_lexer.specs.Lexing.{is_blank, starts_name, name_len, piece_of, tokens_of}
 use Rattle.pddl_parser.specs.Lexemes.{Lexeme, right, name, variable, lower, lexeme, see, lexemes}
 use Rattle.pddl_parser.specs.Grammar.{IsNameWord, is_name_word, IsHead, is_head, IsTerm, is_constant, is_argument, IsObject, is_object, IsParameter, is_parameter, Many, close, more, is_atom, IsGroundAtom, IsLiftedAtom, IsPredicate, is_predicate, IsOpening, is_opening, IsSection, is_section, Closed, closed, Conjunction, nothing, all_of, just, Conjuncts, finished, also, IsChange, is_added, is_deleted, added, deleted, IsPart, is_part, Listed, listed, IsActionBody, is_action_body, IsAction, IsDomain, is_domain, IsProblem, is_problem}
 use Rattle.pddl_parser.specs.Replies.{IsVariable, IsTermText, IsAtomSpelled, IsLiftedAtomSpelled, IsActionSpelled, IsPredicateSpelled, IsDomainSpelled, IsProblemSpelled, HasDomain, HasProblem}
-use Rattle.pddl_parser.proofs.Pieces.{IsPiece, AreCut, tokens_are_cut}
+use Rattle.pddl_lexer.proofs.Pieces.{IsPiece, AreCut, tokens_are_cut}
 
 -- a letter or a digit is one in lower case too
 lower-letter : (b : ℕ) → begins_name b ≡ true → (is_small (to_ascii_lowercase b) || is_digit (to_ascii_lowercase b)) ≡ true

@@ -1,6 +1,6 @@
 -- Actions, domains and problems are read as the grammar says.
 use Rattle.std.proofs.Common.{◌≡◌, ℕ, ◌+◌, ◌<◌, ◌≤◌, false, List, [], ◌∷◌, length, codes, refl, ap, ◌∙◌, arith}
-use Rattle.pddl_parser.specs.declared.lexer.Kind.TheVariants.{RightParen, Name, Variable}
+use Rattle.pddl_lexer.specs.declared.lexer.Kind.TheVariants.{RightParen, Name, Variable}
 use Rattle.pddl_parser.specs.declared.texts.Word.{Word}
 use Rattle.pddl_parser.specs.declared.texts.Typed.{Typed}
 use Rattle.pddl_parser.specs.declared.texts.AtomText.{AtomText}

@@ -1,8 +1,10 @@
 -- From the lexemes of a text to its bytes: what a reading answers, and that a text is the only one.
-use Rattle.std.proofs.Common.{◌≡◌, ℕ, ◌+◌, ◌<◌, ◌≤◌, true, List, [], ◌∷◌, length, codes, Result, Ok, Err, All, refl, sym, ap, ◌∙◌, subst, arith}
+use Rattle.std.proofs.Common.{◌≡◌, ℕ, ◌+◌, ◌<◌, ◌≤◌, false, List, [], ◌∷◌, length, codes, Option, None, Some, Result, Ok, Err, All, refl, sym, ap, ◌∙◌, subst, arith}
+use Rattle.std.specs.Option.{is_some}
 use Rattle.std.proofs.lemmas.List.{length-map}
 use Rattle.std.proofs.lemmas.List.Elements.{All-cons}
-use Rattle.pddl_parser.specs.declared.lexer.Token.{Token}
+use Rattle.pddl_lexer.specs.declared.lexer.Token.{Token}
+use Rattle.pddl_lexer.specs.declared.parentheses.Misplaced.{Misplaced}
 use Rattle.pddl_parser.specs.declared.stop.Stop.{Stop}
 use Rattle.pddl_parser.specs.declared.stop.Stop.TheVariants.{Refused, OutOfMemory}
 use Rattle.pddl_parser.specs.declared.texts.Word.{Word}
@@ -11,14 +13,14 @@ use Rattle.pddl_parser.specs.declared.texts.ActionText.{ActionText}
 use Rattle.pddl_parser.specs.declared.texts.DomainText.{DomainText}
 use Rattle.pddl_parser.specs.declared.texts.ProblemText.{ProblemText}
 use Rattle.pddl_parser.specs.declared.formulas.Terms.TheVariants.{Names}
-use Rattle.pddl_parser.specs.Lexing.{tokens_of, InOrder}
-use Rattle.pddl_parser.specs.Depth.{is_shallow}
+use Rattle.pddl_lexer.specs.Lexing.{tokens_of}
+use Rattle.pddl_lexer.specs.Parentheses.{misplaced_in}
 use Rattle.pddl_parser.specs.Lexemes.{Lexeme, right, see, lexemes}
 use Rattle.pddl_parser.specs.Grammar.{IsOpening, is_opening, IsSection, is_section, IsAction, IsDomain, is_domain, IsProblem, is_problem, Many, close, more, Closed, closed, IsNameWord, is_name_word, Conjunction, IsGroundAtom}
 use Rattle.pddl_parser.specs.Reading.{Read, Reads, got, end, domain, problem}
 use Rattle.pddl_parser.specs.Replies.{HasText, HasDomain, HasProblem, IsReplyBy, IsActionWithin, refusal_of_stop}
 use Rattle.pddl_parser.proofs.Fronts.{same_got}
-use Rattle.pddl_parser.proofs.Pieces.{tokens_are_in_order}
+use Rattle.pddl_lexer.proofs.Pieces.{tokens_are_few}
 use Rattle.pddl_parser.proofs.Items.{Many-count}
 use Rattle.pddl_parser.proofs.Exact.{predicate_is_item, object_is_item, atom_is_item}
 use Rattle.pddl_parser.proofs.ConjunctionRules.{formula-count}
@@ -35,6 +37,14 @@ parses_domain = record { sound = domain-sound; complete = domain-complete }
 pub parses_problem : ParsesWhole IsProblem problem
 parses_problem = record { sound = problem-sound; complete = problem-complete }
 
+none_if_not_some : {A : Type 0} (o : Option A) → is_some o ≡ false → o ≡ None
+none_if_not_some None e = refl
+none_if_not_some (Some x) e = absurd cc
+
+-- tokens of which no parenthesis is told as out of place
+pub are_paired : (ts : List Token) (told : Option Misplaced) → told ≡ misplaced_in ts → is_some told ≡ false → misplaced_in ts ≡ None
+are_paired ts told is none = sym is ∙ none_if_not_some told none
+
 same_tokens : {ts us : List Token} → ◌≡◌ {A = Result (List Token) ℕ} (Ok ts) (Ok us) → ts ≡ us
 same_tokens e = cc
 
@@ -44,9 +54,9 @@ module _ {A : Type 0} (Whole : List Lexeme → A → Type 0) (read : List Lexeme
       let same = same_tokens (sym are ∙ has.1) in
       parses.complete _ text (subst (λ us. Whole (lexemes bytes us) text) (sym same) has.3)
 
-  pub has_text : (ts : List Token) (text : A) (rest left_over : List Lexeme) → tokens_of bytes ≡ Ok ts → is_shallow ts ≡ true → read (lexemes bytes ts) ≡ got text rest → end rest ≡ got tt left_over → HasText Whole bytes text
-  has_text ts text [] left_over are shallow e at_end = (ts, are, shallow, parses.sound _ text e)
-  has_text ts text (t ∷ rest) left_over are shallow e at_end = absurd cc
+  pub has_text : (ts : List Token) (text : A) (rest left_over : List Lexeme) → tokens_of bytes ≡ Ok ts → misplaced_in ts ≡ None → read (lexemes bytes ts) ≡ got text rest → end rest ≡ got tt left_over → HasText Whole bytes text
+  has_text ts text [] left_over are paired e at_end = (ts, are, paired, parses.sound _ text e)
+  has_text ts text (t ∷ rest) left_over are paired e at_end = absurd cc
 
   pub reply_at_stop : (ts : List Token) (stop : Stop) (all bad : List Lexeme) → tokens_of bytes ≡ Ok ts → all ≡ lexemes bytes ts → Reads (read all) (Err stop) bad → IsReplyBy (HasText Whole bytes) (Err (refusal_of_stop stop))
   reply_at_stop ts (Refused why) all bad are is e = (refl, λ text has. let there = only_reading ts are text has in let same = ap read is in absurd cc)
@@ -68,14 +78,10 @@ HasDomain-unique bytes = one_text IsDomain domain parses_domain bytes
 pub HasProblem-unique : (bytes : List ℕ) (p q : ProblemText) → HasProblem bytes p → HasProblem bytes q → p ≡ q
 HasProblem-unique bytes = one_text IsProblem problem parses_problem bytes
 
-InOrder-length : (low high : ℕ) (ts : List Token) → low ≤ high → InOrder low high ts → low + length ts ≤ high
-InOrder-length low high [] fits order = omega arith
-InOrder-length low high (t ∷ ts) fits order = omega (arith, order.0, order.1, order.2, InOrder-length t.to high ts order.2 order.3)
-
--- tokens are no more than the bytes
+-- lexemes are no more than the bytes
 pub length-lexemes : (bytes : List ℕ) (ts : List Token) → tokens_of bytes ≡ Ok ts → length (lexemes bytes ts) ≤ length bytes
 length-lexemes bytes ts are =
-    omega (arith, length-map ts (see bytes), InOrder-length 0 (length bytes) ts (omega arith) (tokens_are_in_order bytes ts are))
+    omega (arith, length-map ts (see bytes), tokens_are_few bytes ts are)
 
 opening-shorter : (kind : List ℕ) (ts rest : List Lexeme) {own : Word} → IsOpening kind ts own rest → length rest < length ts
 opening-shorter kind ts rest is_opening = omega arith

@@ -1,9 +1,9 @@
 -- What a reader of PDDL sees of a text: its tokens, with their words in lower case and their places.
-use Rattle.std.specs.Prelude.{ℕ, ◌≤◌, List, [], ◌∷◌, length, map, slice_range}
+use Rattle.std.specs.Prelude.{ℕ, List, map, slice_range}
 use Rattle.std.specs.Char.{to_ascii_lowercase}
-use Rattle.pddl_parser.specs.declared.lexer.Kind.{Kind}
-use Rattle.pddl_parser.specs.declared.lexer.Kind.TheVariants.{LeftParen, RightParen, Name, Variable, Keyword, Dash, Equal}
-use Rattle.pddl_parser.specs.declared.lexer.Token.{Token}
+use Rattle.pddl_lexer.specs.declared.lexer.Kind.{Kind}
+use Rattle.pddl_lexer.specs.declared.lexer.Kind.TheVariants.{LeftParen, RightParen, Name, Variable, Keyword, Dash, Equal}
+use Rattle.pddl_lexer.specs.declared.lexer.Token.{Token}
 
 -- a token as it is read: where it stands, and for a word its text in lower case, with the `?` or `:` that begins it
 pub data Lexeme : Type 0 where
@@ -36,8 +36,3 @@ see bytes token = lexeme token.kind (lower (slice_range bytes token.from token.t
 -- the tokens of a text as they are read
 abbrev pub lexemes : List ℕ → List Token → List Lexeme
 lexemes bytes tokens = map (see bytes) tokens
-
--- the bytes of each token stand within the text
-abbrev pub AreWithin : List ℕ → List Token → Type 0
-AreWithin bytes [] = Unit {0}
-AreWithin bytes (t ∷ ts) = (t.from ≤ t.to) × (t.to ≤ length bytes) × AreWithin bytes ts

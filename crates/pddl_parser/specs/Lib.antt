@@ -1,6 +1,4 @@
-pub mod Depth
 pub mod Grammar
 pub mod Lexemes
-pub mod Lexing
 pub mod Reading
 pub mod Replies

@@ -1,8 +1,8 @@
 -- Reading lexeme by lexeme: what a part of a text gives, or why it is none and where.
 use Rattle.std.specs.Prelude.{◌≡◌, ℕ, zero, suc, Bool, true, false, ◌||◌, ◌&&◌, List, [], ◌∷◌, length, drop, Result, Ok, Err, None, codes, bytes_eq, if◌then◌else◌}
 use Rattle.std.specs.List.{list_any}
-use Rattle.pddl_parser.specs.declared.lexer.Kind.{Kind}
-use Rattle.pddl_parser.specs.declared.lexer.Kind.TheVariants.{LeftParen, RightParen, Name, Variable, Keyword, Dash, Equal}
+use Rattle.pddl_lexer.specs.declared.lexer.Kind.{Kind}
+use Rattle.pddl_lexer.specs.declared.lexer.Kind.TheVariants.{LeftParen, RightParen, Name, Variable, Keyword, Dash, Equal}
 use Rattle.pddl_parser.specs.declared.stop.Why.{Why}
 use Rattle.pddl_parser.specs.declared.stop.Why.TheVariants.{Shape, Unsupported}
 use Rattle.pddl_parser.specs.declared.stop.Stop.{Stop}

@@ -1,9 +1,9 @@
 -- What the bytes of a text mean, and what reading them has to answer.
-use Rattle.std.specs.Prelude.{◌≡◌, ℕ, ◌≤◌, true, ◌⊎◌, List, [], ◌∷◌, length, Result, Ok, Err, All}
+use Rattle.std.specs.Prelude.{◌≡◌, ℕ, ◌≤◌, ◌⊎◌, List, [], ◌∷◌, length, None, Result, Ok, Err, All}
 use Rattle.flag_rules.specs.Name.{IsName}
-use Rattle.pddl_parser.specs.declared.lexer.LexRefusal.{LexRefusal}
-use Rattle.pddl_parser.specs.declared.lexer.LexRefusal.TheVariants.{Byte as WrongByte, OutOfMemory as NoRoom}
-use Rattle.pddl_parser.specs.declared.lexer.Token.{Token}
+use Rattle.pddl_lexer.specs.declared.lexer.LexRefusal.{LexRefusal}
+use Rattle.pddl_lexer.specs.declared.lexer.LexRefusal.TheVariants.{Byte as WrongByte, OutOfMemory as NoRoom}
+use Rattle.pddl_lexer.specs.declared.lexer.Token.{Token}
 use Rattle.pddl_parser.specs.declared.stop.Stop.{Stop}
 use Rattle.pddl_parser.specs.declared.stop.Stop.TheVariants.{Refused, OutOfMemory as NoMemory}
 use Rattle.pddl_parser.specs.declared.refusal.ParseRefusal.{ParseRefusal}
@@ -15,14 +15,14 @@ use Rattle.pddl_parser.specs.declared.texts.PredText.{PredText}
 use Rattle.pddl_parser.specs.declared.texts.ActionText.{ActionText}
 use Rattle.pddl_parser.specs.declared.texts.DomainText.{DomainText}
 use Rattle.pddl_parser.specs.declared.texts.ProblemText.{ProblemText}
-use Rattle.pddl_parser.specs.Lexing.{tokens_of}
-use Rattle.pddl_parser.specs.Depth.{is_shallow}
+use Rattle.pddl_lexer.specs.Lexing.{tokens_of}
+use Rattle.pddl_lexer.specs.Parentheses.{misplaced_in}
 use Rattle.pddl_parser.specs.Lexemes.{Lexeme, lexemes}
 use Rattle.pddl_parser.specs.Grammar.{IsDomain, IsProblem}
 
--- bytes that have tokens, nested no deeper than they may be, of which a relation holds with a text
+-- bytes that have tokens with every parenthesis in its place, of which a relation holds with a text
 abbrev pub HasText : {A : Type 0} → (List Lexeme → A → Type 0) → List ℕ → A → Type 0
-HasText Relation bytes text = (tokens : List Token) × (tokens_of bytes ≡ Ok tokens) × (is_shallow tokens ≡ true) × Relation (lexemes bytes tokens) text
+HasText Relation bytes text = (tokens : List Token) × (tokens_of bytes ≡ Ok tokens) × (misplaced_in tokens ≡ None) × Relation (lexemes bytes tokens) text
 
 -- the bytes are those of this domain
 abbrev pub HasDomain : List ℕ → DomainText → Type 0

@@ -1,12 +1,12 @@
 ghost use Rattle.std.specs.Prelude.{◌≡◌, ◌<◌, true, length, drop, IfOk};
 ghost use Rattle.pddl_parser.specs.Lexemes.{lexemes, lower};
-ghost use Rattle.pddl_parser.specs.Lexing.{InOrder};
+ghost use Rattle.pddl_lexer.specs.Lexing.{InOrder};
 ghost use Rattle.pddl_parser.specs.Reading.{Reads, is_word, comes, comes_as, comes_reserved, mark, literal, any_word, untyped, start, end, head};
 
-use crate::lexer::{Kind, Token};
 use crate::stop::{Stop, Why};
 use crate::texts::{Typed, Word};
 use flag_rules::Text;
+use pddl_lexer::{Kind, Token};
 use std::alloc::Global;
 use std::marker::Model;
 
@@ -28,7 +28,8 @@ pub struct Cursor<'a> {
 
 impl<'a> Model for Cursor<'a> {
     ghost use Rattle.std.specs.Prelude.{List};
-    ghost use Rattle.pddl_parser.specs.Lexemes.{Lexeme, lexemes, AreWithin};
+    ghost use Rattle.pddl_lexer.specs.Lexing.{AreWithin};
+    ghost use Rattle.pddl_parser.specs.Lexemes.{Lexeme, lexemes};
 
     ghost Value = { List Lexeme };
 

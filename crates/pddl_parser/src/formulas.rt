@@ -4,10 +4,10 @@ ghost use Rattle.pddl_parser.specs.Reading.{Reads, term, many, atom_body, atom, 
 ghost use Rattle.pddl_parser.specs.declared.formulas.Terms.TheVariants.{NamesAndVariables};
 
 use crate::cursor::{Cursor, Start};
-use crate::lexer::Kind;
 use crate::stop::Stop;
 use crate::texts::{AtomText, Word};
 use flag_rules::{List, OutOfMemory};
+use pddl_lexer::Kind;
 use std::alloc::Global;
 
 /// What may stand as an argument of an atom.

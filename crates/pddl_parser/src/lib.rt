@@ -4,16 +4,14 @@
 
 mod cursor;
 mod formulas;
-mod lexer;
-mod nesting;
 mod parse;
 mod refusal;
 mod rules;
 mod stop;
 mod texts;
 
-pub use lexer::LONGEST;
 pub use parse::{domain, domain_is_spelled, one_domain, one_problem, problem, problem_is_spelled};
+pub use pddl_lexer::LONGEST;
 pub use refusal::ParseRefusal;
 pub use texts::{ActionText, AtomText, DomainText, PredText, ProblemText, Typed, Word};
 

@@ -4,11 +4,10 @@ ghost use Rattle.pddl_parser.specs.declared.texts.DomainText.{DomainText as Doma
 ghost use Rattle.pddl_parser.specs.declared.texts.ProblemText.{ProblemText as Problem};
 
 use crate::cursor::Cursor;
-use crate::lexer::{LONGEST, tokens};
-use crate::nesting::is_shallow;
 use crate::refusal::ParseRefusal;
 use crate::rules::{domain_text, problem_text};
 use crate::texts::{DomainText, ProblemText};
+use pddl_lexer::{LONGEST, misplaced_parenthesis, tokens};
 use std::alloc::Global;
 
 /// Reads a domain, in the form `( define ( domain NAME ) ( :predicates pred* ) action* )` of PDDL
@@ -22,7 +21,7 @@ pub fn domain(alloc: Global, bytes: &[u8]) -> Result<DomainText, ParseRefusal>
 {
     let list = tokens(alloc, bytes)?;
     let tokens = list.as_slice();
-    if !is_shallow(tokens) {
+    if misplaced_parenthesis(tokens).is_some() {
         return Err(ParseRefusal::Unsupported(0));
     }
     let mut cursor = Cursor::new(bytes, tokens);
@@ -41,7 +40,7 @@ pub fn problem(alloc: Global, bytes: &[u8]) -> Result<ProblemText, ParseRefusal>
 {
     let list = tokens(alloc, bytes)?;
     let tokens = list.as_slice();
-    if !is_shallow(tokens) {
+    if misplaced_parenthesis(tokens).is_some() {
         return Err(ParseRefusal::Unsupported(0));
     }
     let mut cursor = Cursor::new(bytes, tokens);

@@ -2,8 +2,8 @@ ghost use Rattle.std.specs.Prelude.{◌≡◌};
 ghost use Rattle.pddl_parser.specs.Replies.{refusal_of_lexer, refusal_of_stop};
 ghost use Rattle.pddl_parser.specs.declared.refusal.ParseRefusal.TheVariants.{OutOfMemory as NoMemory};
 
-use crate::lexer::LexRefusal;
 use crate::stop::Stop;
+use pddl_lexer::LexRefusal;
 use thiserror::Error;
 
 /// Why bytes have no text, with the place where. For now each fault of a text is `Unsupported(0)`.

@@ -1,15 +1,15 @@
 ghost use Rattle.std.specs.Prelude.{◌≡◌, true, codes};
 ghost use Rattle.pddl_parser.specs.Lexemes.{lower};
 ghost use Rattle.pddl_parser.specs.Reading.{Reads, is_word, any_word, untyped, many, in_list, atom_body, atom, change_body, conjunction, predicate, opening, section_key, section, closed_item, part, action_body, action, domain, problem};
-ghost use Rattle.pddl_parser.specs.declared.lexer.Kind.TheVariants.{Name, Variable};
+ghost use Rattle.pddl_lexer.specs.declared.lexer.Kind.TheVariants.{Name, Variable};
 ghost use Rattle.pddl_parser.specs.declared.formulas.Terms.TheVariants.{Names, NamesAndVariables};
 
 use crate::cursor::Cursor;
 use crate::formulas::{AtomChange, Terms, atom, effect, formula, split_changes};
-use crate::lexer::Kind;
 use crate::stop::Stop;
 use crate::texts::{ActionText, AtomText, DomainText, PredText, ProblemText, Typed, Word};
 use flag_rules::List;
+use pddl_lexer::Kind;
 use std::alloc::Global;
 
 /// Names or variables without a type, up to the right parenthesis.

@@ -1,10 +1,9 @@
 use Rattle.std.proofs.Common.{sym, ap, ◌∙◌}
 use Rattle.std.proofs.lemmas.Result.{err_from_is_err_and}
-use Rattle.pddl_parser.specs.Depth.{is_shallow}
 use Rattle.pddl_parser.specs.Lexemes.{lexemes}
 use Rattle.pddl_parser.specs.Grammar.{IsProblem}
 use Rattle.pddl_parser.specs.Reading.{problem}
-use Rattle.pddl_parser.proofs.Wholes.{parses_problem, has_text, reply_at_stop, reply_at_rest, HasProblem-count}
+use Rattle.pddl_parser.proofs.Wholes.{parses_problem, are_paired, has_text, reply_at_stop, reply_at_rest, HasProblem-count}
 use Rattle.pddl_parser.proofs.parse.problem.Goals as goal
 
 pub returns-in_err-text-clause-reply : goal.returns-in_err-text-clause-reply
@@ -22,8 +21,8 @@ returns-in_err-end-clause-reply c =
 pub returns-clause-reply : goal.returns-clause-reply
 returns-clause-reply c =
     let all = c.new-cursor.ensures ∙ ap (lexemes c.args.bytes.now) c.as_slice-tokens.ensures in
-    let shallow = ap is_shallow (sym c.as_slice-tokens.ensures) ∙ sym c.is_shallow.ensures ∙ c.if-not-is_shallow.false in
-    has_text IsProblem problem parses_problem c.args.bytes.now _ c.in_ok-text.text _ _ c.in_ok-list.ensures.exact shallow (rw all at c.in_ok-text.ensures) c.in_ok-end.ensures
+    let paired = rw c.as_slice-tokens.ensures at (are_paired _ _ c.misplaced_parenthesis.ensures (sym c.is_some.ensures ∙ c.if-is_some.false)) in
+    has_text IsProblem problem parses_problem c.args.bytes.now _ c.in_ok-text.text _ _ c.in_ok-list.ensures.exact paired (rw all at c.in_ok-text.ensures) c.in_ok-end.ensures
 
 pub returns-clause-short : goal.returns-clause-short
 returns-clause-short c = HasProblem-count c.args.bytes.now c.in_ok-text.text (returns-clause-reply c)

@@ -1,6 +1,6 @@
 use Rattle.std.proofs.Common.{sym, rules}
 use denote.Enum.Bare.{same_true}
-use Rattle.pddl_parser.specs.contracts.lexer.Kind.{the_type}
+use Rattle.pddl_lexer.specs.contracts.lexer.Kind.{the_type}
 use Rattle.pddl_parser.proofs.Fronts.{comes_as-seen}
 use Rattle.pddl_parser.proofs.cursor.Cursor.is_at_word.Goals as goal
 

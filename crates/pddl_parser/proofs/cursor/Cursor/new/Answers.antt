@@ -1,4 +1,4 @@
-use Rattle.pddl_parser.proofs.Fronts.{AreWithin-from_InOrder}
+use Rattle.pddl_lexer.proofs.Pieces.{AreWithin-from_InOrder}
 use Rattle.pddl_parser.proofs.cursor.Cursor.new.Goals as goal
 
 pub invariant_of-result : goal.invariant_of-result

@@ -1,7 +1,7 @@
 use Rattle.std.proofs.Common.{◌∙◌, sym, arith}
 use Rattle.std.proofs.lemmas.List.{length-drop, take_rest}
-use Rattle.pddl_parser.proofs.Pieces.{reading-passed, reading-spelled, reading-stray, reading-end, tokens_are_in_order}
-use Rattle.pddl_parser.proofs.lexer.tokens.Goals as goal
+use Rattle.pddl_lexer.proofs.Pieces.{reading-passed, reading-spelled, reading-stray, reading-end, tokens_are_in_order}
+use Rattle.pddl_lexer.proofs.lexer.tokens.Goals as goal
 
 pub loop-at-preserved-in-Passed : goal.loop-at-preserved-in-Passed
 loop-at-preserved-in-Passed c =

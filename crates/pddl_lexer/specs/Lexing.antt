@@ -1,13 +1,13 @@
 -- The tokens of a text's bytes. Letters are read in lower case.
-use Rattle.std.specs.Prelude.{ℕ, zero, suc, ◌≡◌, ◌+◌, ◌-◌, ◌<◌, ◌≤◌, Bool, false, not, ◌&&◌, ◌||◌, ◌==◌, List, [], ◌∷◌, Result, Ok, Err, if◌then◌else◌}
+use Rattle.std.specs.Prelude.{ℕ, zero, suc, ◌≡◌, ◌+◌, ◌-◌, ◌<◌, ◌≤◌, Bool, false, not, ◌&&◌, ◌||◌, ◌==◌, List, [], ◌∷◌, length, Result, Ok, Err, if◌then◌else◌}
 use Rattle.std.specs.List.{prefix_len}
 use Rattle.flag_rules.specs.Name.{begins_name, is_name_byte}
-use Rattle.pddl_parser.specs.declared.lexer.Kind.TheVariants.{LeftParen, RightParen, Name, Variable, Keyword, Dash, Equal}
-use Rattle.pddl_parser.specs.declared.lexer.Token.{Token}
-use Rattle.pddl_parser.specs.declared.lexer.Piece.{Piece}
-use Rattle.pddl_parser.specs.declared.lexer.Piece.TheVariants.{Passed, Spelled, Stray}
-use Rattle.pddl_parser.specs.declared.lexer.LexRefusal.{LexRefusal}
-use Rattle.pddl_parser.specs.declared.lexer.LexRefusal.TheVariants.{Byte, OutOfMemory}
+use Rattle.pddl_lexer.specs.declared.lexer.Kind.TheVariants.{LeftParen, RightParen, Name, Variable, Keyword, Dash, Equal}
+use Rattle.pddl_lexer.specs.declared.lexer.Token.{Token}
+use Rattle.pddl_lexer.specs.declared.lexer.Piece.{Piece}
+use Rattle.pddl_lexer.specs.declared.lexer.Piece.TheVariants.{Passed, Spelled, Stray}
+use Rattle.pddl_lexer.specs.declared.lexer.LexRefusal.{LexRefusal}
+use Rattle.pddl_lexer.specs.declared.lexer.LexRefusal.TheVariants.{Byte, OutOfMemory}
 
 -- space, tab, line feed, form feed and carriage return separate tokens
 abbrev pub is_blank : ℕ → Bool
@@ -81,3 +81,8 @@ Gives (Err OutOfMemory) all = Unit {0}
 abbrev pub InOrder : ℕ → ℕ → List Token → Type 0
 InOrder low high [] = Unit {0}
 InOrder low high (t ∷ ts) = (low ≤ t.from) × (t.from < t.to) × (t.to ≤ high) × InOrder t.to high ts
+
+-- the bytes of each token stand within the text
+abbrev pub AreWithin : List ℕ → List Token → Type 0
+AreWithin bytes [] = Unit {0}
+AreWithin bytes (t ∷ ts) = (t.from ≤ t.to) × (t.to ≤ length bytes) × AreWithin bytes ts

@@ -1,7 +1,7 @@
 ghost use Rattle.std.specs.Prelude.{◌≡◌, ◌+◌, ◌≤◌, length, IfOk};
-ghost use Rattle.pddl_parser.specs.Lexing.{is_blank, ends_line, name_len, comment_len, starts_name, piece_of, tokens_of, IsWithin, Gives, InOrder};
+ghost use Rattle.pddl_lexer.specs.Lexing.{is_blank, ends_line, name_len, comment_len, starts_name, piece_of, tokens_of, IsWithin, Gives, InOrder};
 ghost use Rattle.flag_rules.specs.Name.{begins_name, is_name_byte};
-ghost use Rattle.pddl_parser.specs.declared.lexer.LexRefusal.TheVariants.{OutOfMemory as NoMemory};
+ghost use Rattle.pddl_lexer.specs.declared.lexer.LexRefusal.TheVariants.{OutOfMemory as NoMemory};
 
 use flag_rules::{List, OutOfMemory};
 use std::alloc::Global;

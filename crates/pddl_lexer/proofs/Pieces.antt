@@ -3,12 +3,12 @@ use Rattle.std.proofs.Common.{◌≡◌, ℕ, zero, suc, ◌+◌, ◌-◌, ◌<�
 use Rattle.std.proofs.lemmas.List.{drop-drop, drop_more, drop_all, append-nil, take_rest}
 use Rattle.std.proofs.lemmas.List.Sums.{prefix_len-le-length}
 use Rattle.flag_rules.specs.Name.{begins_name, is_name_byte}
-use Rattle.pddl_parser.specs.declared.lexer.Kind.{Kind}
-use Rattle.pddl_parser.specs.declared.lexer.Kind.TheVariants.{LeftParen, RightParen, Name, Variable, Keyword, Dash, Equal}
-use Rattle.pddl_parser.specs.declared.lexer.Token.{Token}
-use Rattle.pddl_parser.specs.declared.lexer.Piece.{Piece}
-use Rattle.pddl_parser.specs.declared.lexer.Piece.TheVariants.{Passed, Spelled, Stray}
-use Rattle.pddl_parser.specs.Lexing.{is_blank, starts_name, name_len, comment_len, piece_of, before, IsWithin, from_piece, tokens_at, InOrder}
+use Rattle.pddl_lexer.specs.declared.lexer.Kind.{Kind}
+use Rattle.pddl_lexer.specs.declared.lexer.Kind.TheVariants.{LeftParen, RightParen, Name, Variable, Keyword, Dash, Equal}
+use Rattle.pddl_lexer.specs.declared.lexer.Token.{Token}
+use Rattle.pddl_lexer.specs.declared.lexer.Piece.{Piece}
+use Rattle.pddl_lexer.specs.declared.lexer.Piece.TheVariants.{Passed, Spelled, Stray}
+use Rattle.pddl_lexer.specs.Lexing.{is_blank, starts_name, name_len, comment_len, piece_of, before, IsWithin, from_piece, tokens_at, InOrder, AreWithin}
 
 record Fitting (piece : Piece) (room : ℕ) : Type 0 where
   within : IsWithin piece room
@@ -158,3 +158,16 @@ tokens_are_in_order bytes ts e =
     let cut = AreCut-InOrder bytes _ _ ts (tokens_are_cut bytes bytes 0 0 ts refl (omega arith) e) in
     let high : 0 + length bytes ≡ length bytes = omega arith in
     rw high at cut
+
+-- tokens that stand in order stand within the text
+pub AreWithin-from_InOrder : (bytes : List ℕ) (low : ℕ) (ts : List Token) → InOrder low (length bytes) ts → AreWithin bytes ts
+AreWithin-from_InOrder bytes low [] order = tt
+AreWithin-from_InOrder bytes low (t ∷ ts) order = (omega (arith, order.1), order.2, AreWithin-from_InOrder bytes t.to ts order.3)
+
+InOrder-length : (low high : ℕ) (ts : List Token) → low ≤ high → InOrder low high ts → low + length ts ≤ high
+InOrder-length low high [] fits order = omega arith
+InOrder-length low high (t ∷ ts) fits order = omega (arith, order.0, order.1, order.2, InOrder-length t.to high ts order.2 order.3)
+
+-- tokens are no more than the bytes
+pub tokens_are_few : (bytes : List ℕ) (ts : List Token) → tokens_at bytes 0 0 ≡ Ok ts → length ts ≤ length bytes
+tokens_are_few bytes ts e = omega (arith, InOrder-length 0 (length bytes) ts (omega arith) (tokens_are_in_order bytes ts e))

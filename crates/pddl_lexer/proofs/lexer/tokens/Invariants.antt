@@ -1,7 +1,7 @@
 use Rattle.std.proofs.Common.{◌≡◌, ◌-◌, ◌≤◌, length}
-use Rattle.pddl_parser.specs.Lexing.{tokens_of}
-use Rattle.pddl_parser.proofs.Pieces.{reading}
-use Rattle.pddl_parser.proofs.lexer.tokens.Given as goal
+use Rattle.pddl_lexer.specs.Lexing.{tokens_of}
+use Rattle.pddl_lexer.proofs.Pieces.{reading}
+use Rattle.pddl_lexer.proofs.lexer.tokens.Given as goal
 
 abbrev pub invariant-loop-at : goal.invariant-loop-at
 invariant-loop-at l = (l.at ≤ length l.bytes) × (reading l.bytes l.tokens l.at ≡ tokens_of l.bytes)
