@@ -1,4 +1,4 @@
--- The tokens of a text's bytes. Letters are read in lower case.
+-- The tokens of a text's bytes.
 use Rattle.std.specs.Prelude.{ℕ, zero, suc, ◌≡◌, ◌+◌, ◌-◌, ◌<◌, ◌≤◌, Bool, false, not, ◌&&◌, ◌||◌, ◌==◌, List, [], ◌∷◌, length, Result, Ok, Err, if◌then◌else◌}
 use Rattle.std.specs.List.{prefix_len}
 use Rattle.flag_rules.specs.Name.{begins_name, is_name_byte}
