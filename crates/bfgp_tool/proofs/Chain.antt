@@ -29,6 +29,11 @@ pub knowing : (told : Option Files) (P Q : Files → Type 0) → ((files : Files
 knowing (Some files) P Q goes p = goes files p
 knowing None P Q goes p = tt
 
+-- what holds of all files
+pub knowing_always : (told : Option Files) (P : Files → Type 0) → ((files : Files) → P files) → Knowing told P
+knowing_always None P all = tt
+knowing_always (Some files) P all = all files
+
 -- a shelf that tells what it told before
 pub knowing_same : {told later : Option Files} (P : Files → Type 0) → later ≡ told → Knowing later P → Knowing told P
 knowing_same P kept known = subst (λ (o : Option Files). Knowing o P) kept known

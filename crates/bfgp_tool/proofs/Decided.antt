@@ -29,8 +29,8 @@ then_decided {A} {B} {step} {next} here later = record { one = both }
 -- what a call may answer: one value at most, or one fault at most and then no value; other refusals do not count
 pub record IsDefinite {A E : Type 0} (fault_of : E → Option Fault) (Allowed : Result A E → Type 0) : Type 0 where
   pub value : (a b : A) → Allowed (Ok a) → Allowed (Ok b) → a ≡ b
-  pub fault : Option Fault
-  pub tells : (e : E) (x : Fault) → Allowed (Err e) → fault_of e ≡ Some x → (fault ≡ Some x) × ((a : A) → Allowed (Ok a) → ⊥)
+  pub fault : (d e : E) (x y : Fault) → fault_of d ≡ Some x → fault_of e ≡ Some y → Allowed (Err d) → Allowed (Err e) → x ≡ y
+  pub apart : (a : A) (e : E) (x : Fault) → fault_of e ≡ Some x → Allowed (Ok a) → Allowed (Err e) → ⊥
 
 -- the fault that a reply tells
 told : (o : Option Fault) (P : Fault → Type 0) → IsSomeAnd o P → (x : Fault) × (o ≡ Some x) × P x
@@ -40,14 +40,11 @@ told None P known = absurd known
 pub tell_decided : {A E : Type 0} {fault_of : E → Option Fault} {Allowed : Result A E → Type 0} (name : List ℕ) → IsDefinite fault_of Allowed → IsDecided (or_tell name fault_of Allowed)
 tell_decided {A} {E} {fault_of} {Allowed} name definite = record { one = both }
   where
-    telling : (reply : Reply) → or_tell name fault_of Allowed (Err reply) → (x : Fault) × (reply ≡ fault_reply name x) × (definite.fault ≡ Some x) × ((a : A) → Allowed (Ok a) → ⊥)
-    telling reply p =
-        let t = told (fault_of p.0) (λ x. reply ≡ fault_reply name x) p.2 in
-        let known = definite.tells p.0 t.0 p.1 t.1 in
-        (t.0, t.2, known.0, known.1)
+    telling : (reply : Reply) → or_tell name fault_of Allowed (Err reply) → (e : E) × (x : Fault) × (fault_of e ≡ Some x) × Allowed (Err e) × (reply ≡ fault_reply name x)
+    telling reply p = let t = told (fault_of p.0) (λ x. reply ≡ fault_reply name x) p.2 in (p.0, t.0, t.1, p.1, t.2)
 
     both : (r s : Result A Reply) → or_tell name fault_of Allowed r → or_tell name fault_of Allowed s → r ≡ s
     both (Ok a) (Ok b) p q = ap Ok (definite.value a b p q)
-    both (Ok a) (Err y) p q = absurd ((telling y q).3 a p)
-    both (Err x) (Ok b) p q = absurd ((telling x p).3 b q)
-    both (Err x) (Err y) p q = let t = telling x p in let u = telling y q in let same : t.0 ≡ u.0 = cc in ap Err (t.1 ∙ ap (fault_reply name) same ∙ sym u.1)
+    both (Ok a) (Err y) p q = let t = telling y q in absurd (definite.apart a t.0 t.1 t.2 p t.3)
+    both (Err x) (Ok b) p q = let t = telling x p in absurd (definite.apart b t.0 t.1 t.2 q t.3)
+    both (Err x) (Err y) p q = let t = telling x p in let u = telling y q in ap Err (t.4 ∙ ap (fault_reply name) (definite.fault t.0 u.0 t.1 u.1 t.2 u.2 t.3 u.3) ∙ sym u.4)

@@ -1,5 +1,6 @@
 -- From the reply that is due to the headline.
-use Rattle.std.proofs.Common.{◌≡◌, ℕ, zero, suc, ◌+◌, List, [], ◌∷◌, length, map, slice_get, Option, Some, None, Result, Ok, Err, Bool, true, false, nat_lt, if◌then◌else◌, IsSomeAnd, refl, sym, ◌∙◌, ap, subst, arith}
+use Rattle.std.proofs.Common.{◌≡◌, ℕ, zero, suc, ◌+◌, ◌≤◌, List, [], ◌∷◌, length, map, slice_get, Option, Some, None, Result, Ok, Err, Bool, true, false, nat_lt, if◌then◌else◌, IsSomeAnd, refl, sym, ◌∙◌, ap, subst, arith}
+use Rattle.std.proofs.lemmas.Bool.Decides.{nat_tests}
 use Rattle.std.specs.List.{AllZip}
 use Rattle.bfgp_outside.specs.Shelf.{Files}
 use Rattle.bfgp_outside.specs.Sink.{Appends}
@@ -32,17 +33,18 @@ use Rattle.bfgp_tool.specs.declared.job.Job.{Job}
 use Rattle.bfgp_tool.specs.declared.reply.Reply.{Reply}
 use Rattle.bfgp_tool.specs.declared.status.Status.{Status}
 use Rattle.bfgp_tool.specs.declared.status.Status.TheVariants.{Done, No, Usage, Input, SpentExpansions, SpentRun, ReadFault, WriteFault, OutOfMemory}
-use Rattle.bfgp_tool.specs.Faults.{reading_fault, parsing_fault, numbering_fault, ground_fault, machine_fault, fault_reply}
+use Rattle.bfgp_tool.specs.Faults.{reading_fault, parsing_fault, task_fault, ground_fault, machine_fault, fault_reply}
 use Rattle.bfgp_tool.specs.Steps.{◌>>=◌, goes_on, ends, or_tell}
-use Rattle.bfgp_tool.specs.Numbering.{TaskOf, IsTaskReply, IsInstanceReply}
+use Rattle.pddl_task.specs.Parts.{TaskOf}
+use Rattle.pddl_task.specs.Replies.{IsTaskReply, IsInstanceReply}
+use Rattle.bfgp_tool.specs.Domains.{IsReadDomain}
 use Rattle.bfgp_tool.specs.Grounding.{IsGroundReply, IsCountReply}
 use Rattle.bfgp_tool.specs.Document.{document}
 use Rattle.bfgp_tool.specs.Due.{Due, answer, fault, usage, IsWhole, file_due, domain_due, table_due, tables_due, synth_due, status_of}
 use Rattle.bfgp_tool.specs.Answers.{Writes}
 use Rattle.bfgp_tool.specs.Headline.{Headline, HoldsInstance, Poses, machine_of, FindsLeast, RefutesAll}
 use Rattle.bfgp_tool.proofs.Sequels.{after_task, after_domain_text, after_problem_text, after_instance, after_table, after_instance_bytes, after_count, after_tables, after_domain, after_domain_bytes}
-use Rattle.bfgp_tool.proofs.SpelledNames.{objects_are_names}
-use Rattle.bfgp_tool.proofs.Validity.{instance_fits}
+use Rattle.pddl_task.proofs.InstanceFits.{instance-fits}
 use Rattle.bfgp_tool.proofs.GoalRuns.{solves_each, solves_all, ends_each}
 
 -- ---- a reply without a fault is an answer
@@ -55,7 +57,16 @@ whole_held (Some file) limit bytes read = by_test (nat_lt limit (length file)) r
     by_test true cut = absurd (cc)
     by_test false all = cc
 
--- a domain that was read and numbered
+-- a file that was read whole has no more bytes than the limit
+whole_short : (held : Option (List ℕ)) (limit : ℕ) (bytes : List ℕ) → Ok bytes ≡ whole_of held limit → length bytes ≤ limit
+whole_short None limit bytes read = absurd (cc)
+whole_short (Some file) limit bytes read = by_test (nat_lt limit (length file)) refl read
+  where
+    by_test : (long : Bool) → nat_lt limit (length file) ≡ long → Ok bytes ≡ (if long then Err TooLong else Ok file) → length bytes ≤ limit
+    by_test true is cut = absurd (cc)
+    by_test false is all = let same : bytes ≡ file = cc in subst (λ (l : List ℕ). length l ≤ limit) (sym same) (grind (arith, nat_tests))
+
+-- a domain that was read, with its task
 record Numbered (bytes : List ℕ) (domain : Domain) : Type 0 where
   reads : HasDomain bytes domain.text
   task_is : TaskOf domain.text domain.task
@@ -72,12 +83,12 @@ record HeldTables (files : Files) (domain : Domain) (names : List (List ℕ)) (t
   made : tables ≡ map (ground_of domain.task) instances
   fit : (t : ℕ) (instance : InstanceParts) → slice_get instances t ≡ Some instance → IsInstance domain.task instance
 
-tables_held : (files : Files) (domain : Domain) (names : List (List ℕ)) (tables : List Ground) → TaskOf domain.text domain.task → tables_due files domain names (Ok tables) → HeldTables files domain names tables
-tables_held files domain [] tables task_is made = record { instances = []; held = tt; made = cc; fit = λ t instance here. absurd (cc) }
-tables_held files domain (name ∷ names) tables task_is (goes_on {a = bytes} read (goes_on {a = table} (goes_on {a = problem} problem_is (goes_on {a = instance} instance_is table_is)) (goes_on {a = others} others_are made))) =
-    let rest = tables_held files domain names others task_is others_are in
+tables_held : (files : Files) (domain : Domain) (names : List (List ℕ)) (tables : List Ground) → IsReadDomain domain → tables_due files domain names (Ok tables) → HeldTables files domain names tables
+tables_held files domain [] tables is made = record { instances = []; held = tt; made = cc; fit = λ t instance here. absurd (cc) }
+tables_held files domain (name ∷ names) tables is (goes_on {a = bytes} read (goes_on {a = table} (goes_on {a = problem} problem_is (goes_on {a = instance} instance_is table_is)) (goes_on {a = others} others_are made))) =
+    let rest = tables_held files domain names others is others_are in
     let all : tables ≡ table ∷ others = cc in
-    let fits = instance_fits domain.text problem domain.task instance task_is instance_is (objects_are_names bytes problem problem_is) in
+    let fits = instance-fits domain.text problem domain.task instance is.text is.task (bytes, whole_short (files name) MAX_INPUT_BYTES bytes read, problem_is) instance_is in
     record {
       instances = instance ∷ rest.instances;
       held = (
@@ -121,12 +132,12 @@ then_input step next reply here later (ends ended) = here reply ended
 domain_input : (name bytes : List ℕ) (reply : Reply) → domain_due name bytes (Err reply) → reply.status ≡ Input
 domain_input name bytes reply =
     then_input (or_tell name parsing_fault (IsDomainReply bytes)) (after_domain_text name) reply (told_input name parsing_fault (IsDomainReply bytes)) (λ text r.
-    then_input (or_tell name numbering_fault (IsTaskReply text)) (after_task text) r (told_input name numbering_fault (IsTaskReply text)) (λ task q made. absurd (cc)))
+    then_input (or_tell name task_fault (IsTaskReply text)) (after_task text) r (told_input name task_fault (IsTaskReply text)) (λ task q made. absurd (cc)))
 
 table_input : (name : List ℕ) (domain : Domain) (bytes : List ℕ) (reply : Reply) → table_due name domain bytes (Err reply) → reply.status ≡ Input
 table_input name domain bytes reply =
     then_input (or_tell name parsing_fault (IsProblemReply bytes)) (after_problem_text name domain) reply (told_input name parsing_fault (IsProblemReply bytes)) (λ text r.
-    then_input (or_tell name numbering_fault (IsInstanceReply domain.text text)) (after_instance name domain) r (told_input name numbering_fault (IsInstanceReply domain.text text)) (λ instance q.
+    then_input (or_tell name task_fault (IsInstanceReply domain.text text)) (after_instance name domain) r (told_input name task_fault (IsInstanceReply domain.text text)) (λ instance q.
     told_input name ground_fault (IsGroundReply domain.task instance) q))
 
 tables_input : (files : Files) (domain : Domain) (names : List (List ℕ)) (reply : Reply) → tables_due files domain names (Err reply) → reply.status ≡ Input
@@ -147,7 +158,7 @@ synth_input files job reply =
 answered : (words : List (List ℕ)) (files : Files) (reply : Reply) → ((reply.status ≡ Input) → ⊥) → ((reply.status ≡ Usage) → ⊥) → Due words files reply → Answered words files reply
 answered words files reply no_input no_usage (answer job job_is (goes_on {a = bytes} read (goes_on {a = domain} domain_is (goes_on {a = tables} tables_are (goes_on {a = counted} few found))))) =
     let numbered = domain_numbered job.domain bytes domain domain_is in
-    let held = tables_held files domain job.instances tables numbered.task_is tables_are in
+    let held = tables_held files domain job.instances tables (record { text = (bytes, whole_short (files job.domain) MAX_INPUT_BYTES bytes read, numbered.reads); task = numbered.task_is }) tables_are in
     record {
       posed = record {
         job = job;

@@ -1,11 +1,7 @@
 pub mod Spelled
-pub mod Naming
-pub mod Refused
 pub mod Lists
 pub mod Digits
-pub mod Validity
 pub mod Chain
-pub mod SpelledNames
 pub mod Sequels
 pub mod Tables
 pub mod Synths
@@ -14,6 +10,5 @@ pub mod GoalRuns
 pub mod Headlines
 pub mod Documents
 pub mod Decided
-pub mod Determined
 pub mod OneReply
 pub mod Written

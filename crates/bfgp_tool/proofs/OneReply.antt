@@ -1,19 +1,29 @@
 -- One reply is due.
-use Rattle.std.proofs.Common.{◌≡◌, ℕ, List, [], ◌∷◌, map, decimal, Option, Some, None, Result, Ok, Err, refl, sym, ◌∙◌, ap, subst, arith}
+use Rattle.std.proofs.Common.{◌≡◌, ℕ, ◌<◌, List, [], ◌∷◌, decimal, Option, Some, None, Result, Ok, Err, refl, sym, ◌∙◌, ap, subst, arith}
 use Rattle.std.proofs.lemmas.Fmt.{decimal_injective}
 use Rattle.bfgp_outside.specs.Shelf.{Files}
 use Rattle.bfgp_outside.specs.Whole.{whole_of}
 use Rattle.bfgp_outside.specs.declared.whole.ReadRefusal.{ReadRefusal}
 use Rattle.bfgp_tool.specs.declared.input.TheConstants.{MAX_INPUT_BYTES}
 use Rattle.pddl_parser.specs.declared.refusal.ParseRefusal.{ParseRefusal}
-use Rattle.pddl_parser.specs.declared.refusal.ParseRefusal.TheVariants.{Unsupported, OutOfMemory}
-use Rattle.pddl_parser.specs.Replies.{HasDomain, HasProblem, IsReplyBy}
-use Rattle.pddl_parser.proofs.Wholes.{HasDomain-unique, HasProblem-unique}
+use Rattle.pddl_parser.specs.declared.refusal.ParseRefusal.TheVariants as parse
+use Rattle.pddl_parser.specs.declared.texts.DomainText.{DomainText}
+use Rattle.pddl_parser.specs.declared.texts.ProblemText.{ProblemText}
+use Rattle.pddl_parser.specs.Replies as parser
+use Rattle.pddl_parser.specs.Replies.{HasDomainReply, HasProblemReply, IsDomainReply, IsProblemReply}
+use Rattle.pddl_parser.proofs.Wholes.{one-domain-reply, one-problem-reply}
+use Rattle.pddl_task.specs.declared.refusal.TaskRefusal.{TaskRefusal}
+use Rattle.pddl_task.specs.declared.refusal.TaskRefusal.TheVariants as refusals
+use Rattle.pddl_task.specs.Replies as tasks
+use Rattle.pddl_task.specs.Replies.{HasTaskReply, HasInstanceReply, IsTaskReply, IsInstanceReply}
+use Rattle.pddl_task.proofs.OneAnswer.{one-task, one-instance}
 use Rattle.ground_state.specs.declared.parts.TaskParts.{TaskParts}
 use Rattle.ground_state.specs.declared.parts.InstanceParts.{InstanceParts}
 use Rattle.ground_state.specs.declared.refusal.GroundRefusal.{GroundRefusal}
 use Rattle.ground_state.specs.declared.refusal.GroundRefusal.TheVariants as grounded
 use Rattle.ground_state.specs.Ground.{Ground, atoms_needed}
+use Rattle.ground_state.specs.declared.parts.TheConstants.{MAX_ATOMS}
+use Rattle.program_model.specs.declared.alphabet.TheConstants.{MAX_OPS}
 use Rattle.pointer_machine.specs.declared.refusal.MachineRefusal.{MachineRefusal}
 use Rattle.pointer_machine.specs.declared.refusal.MachineRefusal.TheVariants as made
 use Rattle.pointer_machine.specs.Operations.{operation_count}
@@ -27,60 +37,87 @@ use Rattle.bfgp_tool.specs.declared.domain_reading.Domain.{Domain}
 use Rattle.bfgp_tool.specs.declared.fault.Fault.{Fault}
 use Rattle.bfgp_tool.specs.declared.fault.Fault.TheVariants as faults
 use Rattle.bfgp_tool.specs.declared.job.Job.{Job}
-use Rattle.bfgp_tool.specs.declared.numbering.NumberingRefusal.{NumberingRefusal}
-use Rattle.bfgp_tool.specs.declared.numbering.NumberingRefusal.TheVariants as numbering
 use Rattle.bfgp_tool.specs.declared.reply.Reply.{Reply}
 use Rattle.bfgp_tool.specs.Words.{JobOf}
-use Rattle.bfgp_tool.specs.Faults.{reading_fault, parsing_fault, numbering_fault, ground_fault, machine_fault}
+use Rattle.bfgp_tool.specs.Faults.{reading_fault, parsing_fault, task_fault, ground_fault, machine_fault}
 use Rattle.bfgp_tool.specs.Steps.{goes_on}
-use Rattle.bfgp_tool.specs.Numbering.{AreApart, head_of, IsTaskReply, IsInstanceReply}
 use Rattle.bfgp_tool.specs.Grounding.{IsGroundReply, IsCountReply}
 use Rattle.bfgp_tool.specs.Document.{document}
 use Rattle.bfgp_tool.specs.Due.{Due, answer, fault, usage, IsWhole, file_due, domain_due, table_due, tables_due, answer_due, job_due, status_of}
 use Rattle.bfgp_tool.proofs.Decided.{IsDecided, IsDefinite, pure_decided, then_decided, tell_decided}
-use Rattle.bfgp_tool.proofs.Determined.{TaskOf-unique, InstanceOf-unique}
-
--- the fault of a file that is not taken
-abbrev fault_in : Result (List ℕ) ReadRefusal → Option Fault
-fault_in (Ok bytes) = None
-fault_in (Err refusal) = reading_fault refusal
 
 -- each call of a job is definite
 whole_definite : (files : Files) (name : List ℕ) → IsDefinite reading_fault (IsWhole files name)
 whole_definite files name = record {
   value = λ a b p q. let same = p ∙ sym q in cc;
-  fault = fault_in (whole_of (files name) MAX_INPUT_BYTES);
-  tells = λ e x p is. (sym (ap fault_in p) ∙ is, λ a q. let same = p ∙ sym q in cc);
+  fault = λ d e x y dx ey p q. let same = p ∙ sym q in let is : d ≡ e = cc in let there = ap reading_fault is in cc;
+  apart = λ a e x is p q. let same = p ∙ sym q in absurd (cc);
 }
 
-text_definite : {A : Type 0} (Has : A → Type 0) → ((x y : A) → Has x → Has y → x ≡ y) → IsDefinite parsing_fault (IsReplyBy Has)
-text_definite {A} Has one = record { value = one; fault = Some (faults.Unsupported 0); tells = tells }
-  where
-    tells : (e : ParseRefusal) (x : Fault) → IsReplyBy Has (Err e) → parsing_fault e ≡ Some x → (Some (faults.Unsupported 0) ≡ Some x) × ((a : A) → Has a → ⊥)
-    tells (Unsupported at) x none is = (let at_is = none.0 in cc, none.1)
-    tells OutOfMemory x none is = absurd (cc)
-    tells _ x none is = absurd none
+-- a call with one answer at most, up to want of memory
+one_definite : {A E : Type 0} (fault_of : E → Option Fault) (Has Allowed : Result A E → Type 0) → ((r s : Result A E) → Has r → Has s → r ≡ s) → ((a : A) → Allowed (Ok a) → Has (Ok a)) → ((e : E) (x : Fault) → fault_of e ≡ Some x → Allowed (Err e) → Has (Err e)) → IsDefinite fault_of Allowed
+one_definite {A} {E} fault_of Has Allowed one value refusal = record {
+  value = λ a b p q. let same = one (Ok a) (Ok b) (value a p) (value b q) in cc;
+  fault = λ d e x y dx ey p q. let same = one (Err d) (Err e) (refusal d x dx p) (refusal e y ey q) in let is : d ≡ e = cc in let there = ap fault_of is in cc;
+  apart = λ a e x ex p q. let same = one (Ok a) (Err e) (value a p) (refusal e x ex q) in absurd (cc);
+}
 
-numbering_definite : {A : Type 0} (Allowed : Result A NumberingRefusal → Type 0) → ((x y : A) → Allowed (Ok x) → Allowed (Ok y) → x ≡ y) → (Allowed (Err numbering.Faulty) → (a : A) → Allowed (Ok a) → ⊥) → IsDefinite numbering_fault Allowed
-numbering_definite {A} Allowed one none = record { value = one; fault = Some (faults.Unsupported 0); tells = tells }
-  where
-    tells : (e : NumberingRefusal) (x : Fault) → Allowed (Err e) → numbering_fault e ≡ Some x → (Some (faults.Unsupported 0) ≡ Some x) × ((a : A) → Allowed (Ok a) → ⊥)
-    tells numbering.Faulty x refused is = (is, none refused)
-    tells numbering.OutOfMemory x refused is = absurd (cc)
+parsed : {A : Type 0} (Has : Result A ParseRefusal → Type 0) (e : ParseRefusal) (x : Fault) → parsing_fault e ≡ Some x → parser.OrMemory Has (Err e) → Has (Err e)
+parsed Has parse.OutOfMemory x e p = absurd (cc)
+parsed Has (parse.Byte at) x e p = p
+parsed Has (parse.Unclosed at) x e p = p
+parsed Has (parse.Unopened at) x e p = p
+parsed Has (parse.TooDeep at) x e p = p
+parsed Has (parse.Shape at) x e p = p
+parsed Has (parse.Unsupported at) x e p = p
+
+tasked : {A : Type 0} (Has : Result A TaskRefusal → Type 0) (e : TaskRefusal) (x : Fault) → task_fault e ≡ Some x → tasks.OrMemory Has (Err e) → Has (Err e)
+tasked Has refusals.OutOfMemory x e p = absurd (cc)
+tasked Has (refusals.Unknown at) x e p = p
+tasked Has (refusals.Twice at) x e p = p
+tasked Has (refusals.Arity at) x e p = p
+tasked Has (refusals.TypeCycle at) x e p = p
+tasked Has (refusals.OtherDomain at) x e p = p
+tasked Has refusals.NoObject x e p = p
+tasked Has (refusals.Limit which count) x e p = p
+
+domain_definite : (bytes : List ℕ) → IsDefinite parsing_fault (IsDomainReply bytes)
+domain_definite bytes = one_definite parsing_fault (HasDomainReply bytes) (IsDomainReply bytes) (one-domain-reply bytes) (λ a p. p) (parsed (HasDomainReply bytes))
+
+problem_definite : (bytes : List ℕ) → IsDefinite parsing_fault (IsProblemReply bytes)
+problem_definite bytes = one_definite parsing_fault (HasProblemReply bytes) (IsProblemReply bytes) (one-problem-reply bytes) (λ a p. p) (parsed (HasProblemReply bytes))
+
+task_definite : (text : DomainText) → IsDefinite task_fault (IsTaskReply text)
+task_definite text = one_definite task_fault (HasTaskReply text) (IsTaskReply text) (one-task text) (λ a p. p) (tasked (HasTaskReply text))
+
+instance_definite : (domain : DomainText) (text : ProblemText) → IsDefinite task_fault (IsInstanceReply domain text)
+instance_definite domain text = one_definite task_fault (HasInstanceReply domain text) (IsInstanceReply domain text) (one-instance domain text) (λ a p. p) (tasked (HasInstanceReply domain text))
 
 ground_definite : (task : TaskParts) (instance : InstanceParts) → IsDefinite ground_fault (IsGroundReply task instance)
-ground_definite task instance = record { value = λ a b p q. p.0 ∙ sym q.0; fault = Some (faults.Atoms (atoms_needed task instance)); tells = tells }
+ground_definite task instance = record { value = λ a b p q. p.0 ∙ sym q.0; fault = fault_is; apart = apart }
   where
-    tells : (e : GroundRefusal) (x : Fault) → IsGroundReply task instance (Err e) → ground_fault e ≡ Some x → (Some (faults.Atoms (atoms_needed task instance)) ≡ Some x) × ((a : Ground) → IsGroundReply task instance (Ok a) → ⊥)
-    tells (grounded.TooManyAtoms count) x p is = (let count_is = p.0 in cc, λ a q. omega (arith, p.0, p.1, q.1))
-    tells grounded.OutOfMemory x p is = absurd (cc)
+    atoms : (e : GroundRefusal) (x : Fault) → ground_fault e ≡ Some x → IsGroundReply task instance (Err e) → (x ≡ faults.Atoms (atoms_needed task instance)) × (MAX_ATOMS < atoms_needed task instance)
+    atoms (grounded.TooManyAtoms count) x is p = (let count_is = p.0 in cc, omega (arith, p.0, p.1))
+    atoms grounded.OutOfMemory x is p = absurd (cc)
+
+    fault_is : (d e : GroundRefusal) (x y : Fault) → ground_fault d ≡ Some x → ground_fault e ≡ Some y → IsGroundReply task instance (Err d) → IsGroundReply task instance (Err e) → x ≡ y
+    fault_is d e x y dx ey p q = (atoms d x dx p).0 ∙ sym (atoms e y ey q).0
+
+    apart : (a : Ground) (e : GroundRefusal) (x : Fault) → ground_fault e ≡ Some x → IsGroundReply task instance (Ok a) → IsGroundReply task instance (Err e) → ⊥
+    apart a e x is p q = let many = (atoms e x is q).1 in omega (arith, p.1, many)
 
 count_definite : (task : TaskParts) (pointers : ℕ) → IsDefinite machine_fault (IsCountReply task pointers)
-count_definite task pointers = record { value = λ a b p q. refl; fault = Some (faults.Operations (operation_count task pointers)); tells = tells }
+count_definite task pointers = record { value = λ a b p q. refl; fault = fault_is; apart = apart }
   where
-    tells : (e : MachineRefusal) (x : Fault) → IsCountReply task pointers (Err e) → machine_fault e ≡ Some x → (Some (faults.Operations (operation_count task pointers)) ≡ Some x) × ((a : Unit {0}) → IsCountReply task pointers (Ok a) → ⊥)
-    tells (made.TooManyOps count) x p is = (let count_is = p.0 in cc, λ a q. omega (arith, p.0, p.1, q))
-    tells made.OutOfMemory x p is = absurd (cc)
+    counted : (e : MachineRefusal) (x : Fault) → machine_fault e ≡ Some x → IsCountReply task pointers (Err e) → (x ≡ faults.Operations (operation_count task pointers)) × (MAX_OPS < operation_count task pointers)
+    counted (made.TooManyOps count) x is p = (let count_is = p.0 in cc, omega (arith, p.0, p.1))
+    counted made.OutOfMemory x is p = absurd (cc)
+
+    fault_is : (d e : MachineRefusal) (x y : Fault) → machine_fault d ≡ Some x → machine_fault e ≡ Some y → IsCountReply task pointers (Err d) → IsCountReply task pointers (Err e) → x ≡ y
+    fault_is d e x y dx ey p q = (counted d x dx p).0 ∙ sym (counted e y ey q).0
+
+    apart : (a : Unit {0}) (e : MachineRefusal) (x : Fault) → machine_fault e ≡ Some x → IsCountReply task pointers (Ok a) → IsCountReply task pointers (Err e) → ⊥
+    apart a e x is p q = let many = (counted e x is q).1 in omega (arith, p, many)
 
 -- each step of a job is decided
 file_decided : (files : Files) (name : List ℕ) → IsDecided (file_due files name)
@@ -88,22 +125,15 @@ file_decided files name = tell_decided name (whole_definite files name)
 
 domain_decided : (name bytes : List ℕ) → IsDecided (domain_due name bytes)
 domain_decided name bytes =
-    then_decided (tell_decided name (text_definite (HasDomain bytes) (HasDomain-unique bytes))) (λ text has.
-    then_decided (tell_decided name (numbering_definite (IsTaskReply text) (TaskOf-unique text) (λ none. none))) (λ task is.
+    then_decided (tell_decided name (domain_definite bytes)) (λ text has.
+    then_decided (tell_decided name (task_definite text)) (λ task is.
     pure_decided (record { text = text; task = task })))
 
--- the heads of a domain's predicates differ
-heads_apart : (name bytes : List ℕ) (domain : Domain) → domain_due name bytes (Ok domain) → AreApart (map head_of domain.text.predicates)
-heads_apart name bytes domain (goes_on {a = text} text_is (goes_on {a = task} task_is made)) =
-    let is : record { text = text; task = task } ≡ domain = cc in
-    subst (λ (d : Domain). AreApart (map head_of d.text.predicates)) is task_is.heads_differ
-
--- over a domain whose heads differ
-module _ (files : Files) (domain : Domain) (heads : AreApart (map head_of domain.text.predicates)) where
+module _ (files : Files) (domain : Domain) where
   table_decided : (name bytes : List ℕ) → IsDecided (table_due name domain bytes)
   table_decided name bytes =
-      then_decided (tell_decided name (text_definite (HasProblem bytes) (HasProblem-unique bytes))) (λ text has.
-      then_decided (tell_decided name (numbering_definite (IsInstanceReply domain.text text) (InstanceOf-unique domain.text text heads) (λ none. none))) (λ instance is.
+      then_decided (tell_decided name (problem_definite bytes)) (λ text has.
+      then_decided (tell_decided name (instance_definite domain.text text)) (λ instance is.
       tell_decided name (ground_definite domain.task instance)))
 
   tables_decided : (names : List (List ℕ)) → IsDecided (tables_due files domain names)
@@ -129,7 +159,7 @@ job_decided : (files : Files) (job : Job) → IsDecided (job_due files job)
 job_decided files job =
     then_decided (file_decided files job.domain) (λ bytes read.
     then_decided (domain_decided job.domain bytes) (λ domain numbered.
-    then_decided (tables_decided files domain (heads_apart job.domain bytes domain numbered) job.instances) (λ tables made.
+    then_decided (tables_decided files domain job.instances) (λ tables made.
     then_decided (tell_decided job.domain (count_definite domain.task job.pointers)) (λ counted few.
     answer_decided domain.task tables job.pointers job.lines))))
 

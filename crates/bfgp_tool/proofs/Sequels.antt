@@ -9,9 +9,9 @@ use Rattle.bfgp_outside.specs.Shelf.{Files}
 use Rattle.bfgp_tool.specs.declared.domain_reading.Domain.{Domain}
 use Rattle.bfgp_tool.specs.declared.job.Job.{Job}
 use Rattle.bfgp_tool.specs.declared.reply.Reply.{Reply}
-use Rattle.bfgp_tool.specs.Faults.{numbering_fault, ground_fault, machine_fault}
+use Rattle.bfgp_tool.specs.Faults.{task_fault, ground_fault, machine_fault}
 use Rattle.bfgp_tool.specs.Steps.{◌>>=◌, pure, or_tell}
-use Rattle.bfgp_tool.specs.Numbering.{IsTaskReply, IsInstanceReply}
+use Rattle.pddl_task.specs.Replies.{IsTaskReply, IsInstanceReply}
 use Rattle.bfgp_tool.specs.Grounding.{IsGroundReply, IsCountReply}
 use Rattle.bfgp_tool.specs.Due.{domain_due, table_due, tables_due, answer_due}
 
@@ -21,7 +21,7 @@ after_task text task = pure (record { text = text; task = task })
 
 -- after a domain text
 abbrev pub after_domain_text : List ℕ → DomainText → Result Domain Reply → Type 0
-after_domain_text name text = or_tell name numbering_fault (IsTaskReply text) >>= after_task text
+after_domain_text name text = or_tell name task_fault (IsTaskReply text) >>= after_task text
 
 -- after the parts of an instance
 abbrev pub after_instance : List ℕ → Domain → InstanceParts → Result Ground Reply → Type 0
@@ -29,7 +29,7 @@ after_instance name domain instance = or_tell name ground_fault (IsGroundReply d
 
 -- after an instance text
 abbrev pub after_problem_text : List ℕ → Domain → ProblemText → Result Ground Reply → Type 0
-after_problem_text name domain text = or_tell name numbering_fault (IsInstanceReply domain.text text) >>= after_instance name domain
+after_problem_text name domain text = or_tell name task_fault (IsInstanceReply domain.text text) >>= after_instance name domain
 
 -- some tables and those of the other instances
 abbrev pub after_others : List Ground → List Ground → Result (List Ground) Reply → Type 0

@@ -22,9 +22,9 @@ use Rattle.bfgp_tool.specs.declared.reply.Reply.{Reply}
 use Rattle.bfgp_tool.specs.declared.status.Status.{Status}
 use Rattle.bfgp_tool.specs.declared.status.Status.TheVariants.{Done, No, Usage, SpentExpansions, SpentRun}
 use Rattle.bfgp_tool.specs.Words.{JobOf, usage_text}
-use Rattle.bfgp_tool.specs.Faults.{reading_fault, parsing_fault, numbering_fault, ground_fault, machine_fault}
+use Rattle.bfgp_tool.specs.Faults.{reading_fault, parsing_fault, task_fault, ground_fault, machine_fault}
 use Rattle.bfgp_tool.specs.Steps.{◌>>=◌, pure, or_tell}
-use Rattle.bfgp_tool.specs.Numbering.{IsTaskReply, IsInstanceReply}
+use Rattle.pddl_task.specs.Replies.{IsTaskReply, IsInstanceReply}
 use Rattle.bfgp_tool.specs.Document.{document}
 
 -- the bytes of a file that is held and not too long, or why they are not taken
@@ -39,14 +39,14 @@ file_due files name = or_tell name reading_fault (IsWhole files name)
 abbrev pub domain_due : List ℕ → List ℕ → Result Domain Reply → Type 0
 domain_due name bytes = do
   text ← or_tell name parsing_fault (IsDomainReply bytes)
-  task ← or_tell name numbering_fault (IsTaskReply text)
+  task ← or_tell name task_fault (IsTaskReply text)
   pure (record { text = text; task = task })
 
 -- the bytes of an instance file are read, its names numbered, and its ground atoms counted
 abbrev pub table_due : List ℕ → Domain → List ℕ → Result Ground Reply → Type 0
 table_due name domain bytes = do
   text ← or_tell name parsing_fault (IsProblemReply bytes)
-  instance ← or_tell name numbering_fault (IsInstanceReply domain.text text)
+  instance ← or_tell name task_fault (IsInstanceReply domain.text text)
   or_tell name ground_fault (IsGroundReply domain.task instance)
 
 -- all of each instance file before the next

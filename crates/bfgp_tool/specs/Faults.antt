@@ -5,18 +5,26 @@ use Rattle.bfgp_outside.specs.declared.whole.ReadRefusal.{ReadRefusal}
 use Rattle.bfgp_outside.specs.declared.whole.ReadRefusal.TheVariants as read
 use Rattle.pddl_parser.specs.declared.refusal.ParseRefusal.{ParseRefusal}
 use Rattle.pddl_parser.specs.declared.refusal.ParseRefusal.TheVariants as parse
+use Rattle.pddl_task.specs.declared.refusal.TaskRefusal.{TaskRefusal}
+use Rattle.pddl_task.specs.declared.refusal.TaskRefusal.TheVariants as tasks
+use Rattle.pddl_task.specs.declared.refusal.Which.{Which}
+use Rattle.pddl_task.specs.declared.refusal.Which.TheVariants as limits
 use Rattle.ground_state.specs.declared.refusal.GroundRefusal.{GroundRefusal}
 use Rattle.ground_state.specs.declared.refusal.GroundRefusal.TheVariants as grounded
 use Rattle.pointer_machine.specs.declared.refusal.MachineRefusal.{MachineRefusal}
 use Rattle.pointer_machine.specs.declared.refusal.MachineRefusal.TheVariants as made
 use Rattle.bfgp_tool.specs.declared.fault.Fault.{Fault}
-use Rattle.bfgp_tool.specs.declared.fault.Fault.TheVariants.{Absent, TooLong, Byte, Unclosed, Unopened, TooDeep, Shape, Unsupported, Atoms, Operations}
-use Rattle.bfgp_tool.specs.declared.numbering.NumberingRefusal.{NumberingRefusal}
-use Rattle.bfgp_tool.specs.declared.numbering.NumberingRefusal.TheVariants as numbering
+use Rattle.bfgp_tool.specs.declared.fault.Fault.TheVariants.{Absent, TooLong, Byte, Unclosed, Unopened, TooDeep, Shape, Unsupported, Unknown, Twice, Arity, TypeCycle, OtherDomain, NoObject, Limit, Atoms, Operations}
 use Rattle.bfgp_tool.specs.declared.reply.Reply.{Reply}
 use Rattle.bfgp_tool.specs.declared.reply.Halt.{Halt}
 use Rattle.bfgp_tool.specs.declared.reply.Halt.TheVariants.{Early, ReadFault, OutOfMemory}
 use Rattle.bfgp_tool.specs.declared.status.Status.TheVariants.{Input}
+
+-- how a limit is told
+abbrev pub limit_text : Which → List ℕ
+limit_text limits.Parameters = codes "parameters"
+limit_text limits.Arity = codes "arity"
+limit_text limits.Objects = codes "objects"
 
 -- how a fault is told; a position counts bytes from 0
 abbrev pub fault_text : Fault → List ℕ
@@ -28,6 +36,13 @@ fault_text (Unopened position) = codes "unopened " ++ decimal position
 fault_text (TooDeep position) = codes "too deep " ++ decimal position
 fault_text (Shape position) = codes "shape " ++ decimal position
 fault_text (Unsupported position) = codes "unsupported " ++ decimal position
+fault_text (Unknown position) = codes "unknown " ++ decimal position
+fault_text (Twice position) = codes "twice " ++ decimal position
+fault_text (Arity position) = codes "arity " ++ decimal position
+fault_text (TypeCycle position) = codes "type cycle " ++ decimal position
+fault_text (OtherDomain position) = codes "other domain " ++ decimal position
+fault_text NoObject = codes "no object"
+fault_text (Limit which count) = codes "limit " ++ limit_text which ++ codes " " ++ decimal count
 fault_text (Atoms count) = codes "atoms " ++ decimal count
 fault_text (Operations count) = codes "operations " ++ decimal count
 
@@ -55,10 +70,16 @@ parsing_fault (parse.Shape position) = Some (Shape position)
 parsing_fault (parse.Unsupported position) = Some (Unsupported position)
 parsing_fault parse.OutOfMemory = None
 
--- so far every fault of a task or of an instance is told as a text that is not supported
-abbrev pub numbering_fault : NumberingRefusal → Option Fault
-numbering_fault numbering.Faulty = Some (Unsupported 0)
-numbering_fault numbering.OutOfMemory = None
+-- the faults of a domain as a task, and of a problem as an instance
+abbrev pub task_fault : TaskRefusal → Option Fault
+task_fault (tasks.Unknown position) = Some (Unknown position)
+task_fault (tasks.Twice position) = Some (Twice position)
+task_fault (tasks.Arity position) = Some (Arity position)
+task_fault (tasks.TypeCycle position) = Some (TypeCycle position)
+task_fault (tasks.OtherDomain position) = Some (OtherDomain position)
+task_fault tasks.NoObject = Some NoObject
+task_fault (tasks.Limit which count) = Some (Limit which count)
+task_fault tasks.OutOfMemory = None
 
 abbrev pub ground_fault : GroundRefusal → Option Fault
 ground_fault (grounded.TooManyAtoms count) = Some (Atoms count)

@@ -25,7 +25,7 @@ use Rattle.bfgp_tool.specs.declared.job.Job.{Job}
 use Rattle.bfgp_tool.specs.declared.status.Status.{Status}
 use Rattle.bfgp_tool.specs.declared.status.Status.TheVariants.{Done, No}
 use Rattle.bfgp_tool.specs.Words.{JobOf}
-use Rattle.bfgp_tool.specs.Numbering.{TaskOf, InstanceOf}
+use Rattle.pddl_task.specs.Parts.{TaskOf, InstanceOf}
 use Rattle.bfgp_tool.specs.Document.{document}
 
 -- a file holds the text of an instance over a domain

@@ -1,7 +1,6 @@
 pub mod Words
 pub mod Faults
 pub mod Steps
-pub mod Numbering
 pub mod Document
 pub mod Due
 pub mod Answers

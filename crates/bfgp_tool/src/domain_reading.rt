@@ -1,32 +1,32 @@
 ghost use Rattle.std.specs.Prelude.{◌≤◌, length, IfOk, IfErr};
-ghost use Rattle.pddl_parser.specs.Replies.{IsDomainReply, IsDomainSpelled};
+ghost use Rattle.pddl_parser.specs.Replies.{IsDomainReply, IsDomainText};
 ghost use Rattle.bfgp_tool.specs.declared.input.TheConstants.{MAX_INPUT_BYTES};
-ghost use Rattle.bfgp_tool.specs.Numbering.{IsTaskReply};
-ghost use Rattle.bfgp_tool.specs.Faults.{parsing_fault, numbering_fault};
+ghost use Rattle.pddl_task.specs.Replies.{IsTaskReply};
+ghost use Rattle.bfgp_tool.specs.Faults.{parsing_fault, task_fault};
 ghost use Rattle.bfgp_tool.specs.Steps.{or_tell, Gives};
 ghost use Rattle.bfgp_tool.specs.Due.{domain_due};
 ghost use Rattle.bfgp_tool.specs.Answers.{TellsOther};
-ghost use Rattle.bfgp_tool.specs.Domains.{IsShortDomain, IsNumberedDomain};
+ghost use Rattle.bfgp_tool.specs.Domains.{IsReadDomain};
 
 use crate::fault::{Fault, refuse};
-use crate::numbering::task_parts;
 use crate::reply::Halt;
 use ground_state::Task;
 use pddl_parser::DomainText;
+use pddl_task::task;
 use std::alloc::Global;
 
-/// A domain as it is written, and as it is numbered.
+/// A domain as it is written, and its task.
 #[derive(Debug, Drop)]
 pub struct Domain {
     pub text: DomainText,
     pub task: Task,
 }
 
-/// Reads the bytes of a domain file, and numbers its names.
+/// Reads the bytes of a domain file, and gives its task.
 pub fn domain_of(alloc: Global, name: &[u8], bytes: &[u8]) -> Result<Domain, Halt>
     requires { length bytes.now ≤ MAX_INPUT_BYTES }
     ensures due { Gives (domain_due name.now bytes.now) result }
-    ensures numbered { IfOk result IsNumberedDomain }
+    ensures read { IfOk result IsReadDomain }
     ensures cause { IfErr result TellsOther }
 {
     let text = domain_text(alloc, name, bytes)?;
@@ -37,8 +37,7 @@ pub fn domain_of(alloc: Global, name: &[u8], bytes: &[u8]) -> Result<Domain, Hal
 fn domain_text(alloc: Global, name: &[u8], bytes: &[u8]) -> Result<DomainText, Halt>
     requires { length bytes.now ≤ MAX_INPUT_BYTES }
     ensures due { Gives (or_tell name.now parsing_fault (IsDomainReply bytes.now)) result }
-    ensures spelled { IfOk result IsDomainSpelled }
-    ensures short { IfOk result IsShortDomain }
+    ensures read { IfOk result IsDomainText }
     ensures cause { IfErr result TellsOther }
 {
     match pddl_parser::domain(alloc, bytes) {
@@ -48,13 +47,12 @@ fn domain_text(alloc: Global, name: &[u8], bytes: &[u8]) -> Result<DomainText, H
 }
 
 fn task_of(alloc: Global, name: &[u8], domain: &DomainText) -> Result<Task, Halt>
-    requires spelled { IsDomainSpelled domain.now }
-    requires short { IsShortDomain domain.now }
-    ensures due { Gives (or_tell name.now numbering_fault (IsTaskReply domain.now)) result }
+    requires { IsDomainText domain.now }
+    ensures due { Gives (or_tell name.now task_fault (IsTaskReply domain.now)) result }
     ensures cause { IfErr result TellsOther }
 {
-    match task_parts(alloc, domain) {
-        Ok(parts) => Ok(Task::new(parts)),
-        Err(refusal) => Err(refuse(alloc, name, Fault::of_numbering(refusal))),
+    match task(alloc, domain) {
+        Ok(task) => Ok(task),
+        Err(refusal) => Err(refuse(alloc, name, Fault::of_task(refusal))),
     }
 }

@@ -1,12 +1,12 @@
 ghost use Rattle.std.specs.Prelude.{◌≡◌, IfOk};
 ghost use Rattle.bfgp_tool.specs.Faults.{fault_reply, fault_text, IsTelling, IsRefusing};
 
-use crate::numbering::NumberingRefusal;
 use crate::reply::{Halt, Reply};
 use crate::status::Status;
 use flag_rules::{OutOfMemory, Text};
 use ground_state::GroundRefusal;
 use pddl_parser::ParseRefusal;
+use pddl_task::{TaskRefusal, Which};
 use pointer_machine::MachineRefusal;
 use std::alloc::Global;
 use std::fmt;
@@ -28,8 +28,22 @@ pub enum Fault {
     TooDeep(u32),
     /// A token that fits no text.
     Shape(u32),
-    /// A form, or a fault, that is not supported.
+    /// A form of PDDL that is left out.
     Unsupported(u32),
+    /// A type, a predicate, a name or a variable that stands nowhere.
+    Unknown(u32),
+    /// The second of two equal words where words differ.
+    Twice(u32),
+    /// An atom with another number of arguments than its predicate has parameters.
+    Arity(u32),
+    /// A type that does not stand under `object`.
+    TypeCycle(u32),
+    /// The name of another domain.
+    OtherDomain(u32),
+    /// The instance has no object.
+    NoObject,
+    /// So many of them, which is more than the limit.
+    Limit(Which, u64),
     /// The instance has this many ground atoms, which is more than the limit.
     Atoms(u64),
     /// The domain has this many operations over the pointers, which is more than the limit.
@@ -37,7 +51,7 @@ pub enum Fault {
 }
 
 impl Fault {
-    ghost use Rattle.bfgp_tool.specs.Faults.{parsing_fault, numbering_fault, ground_fault, machine_fault};
+    ghost use Rattle.bfgp_tool.specs.Faults.{parsing_fault, task_fault, ground_fault, machine_fault};
 
     /// The fault that a refusal of a text is, unless it is for want of memory.
     pub fn of_text(refusal: ParseRefusal) -> Option<Fault>
@@ -54,13 +68,19 @@ impl Fault {
         }
     }
 
-    /// The fault that a refusal to number a text is, unless it is for want of memory.
-    pub fn of_numbering(refusal: NumberingRefusal) -> Option<Fault>
-        ensures { result ≡ numbering_fault refusal }
+    /// The fault that a refusal of a text as a task or as an instance is, unless it is for want of memory.
+    pub fn of_task(refusal: TaskRefusal) -> Option<Fault>
+        ensures { result ≡ task_fault refusal }
     {
         match refusal {
-            NumberingRefusal::Faulty => Some(Fault::Unsupported(0)),
-            NumberingRefusal::OutOfMemory => None,
+            TaskRefusal::Unknown(position) => Some(Fault::Unknown(position)),
+            TaskRefusal::Twice(position) => Some(Fault::Twice(position)),
+            TaskRefusal::Arity(position) => Some(Fault::Arity(position)),
+            TaskRefusal::TypeCycle(position) => Some(Fault::TypeCycle(position)),
+            TaskRefusal::OtherDomain(position) => Some(Fault::OtherDomain(position)),
+            TaskRefusal::NoObject => Some(Fault::NoObject),
+            TaskRefusal::Limit(which, count) => Some(Fault::Limit(which, count)),
+            TaskRefusal::OutOfMemory => None,
         }
     }
 
@@ -101,6 +121,15 @@ impl fmt::Display for Fault {
             Fault::TooDeep(position) => write!(f, "too deep {position}"),
             Fault::Shape(position) => write!(f, "shape {position}"),
             Fault::Unsupported(position) => write!(f, "unsupported {position}"),
+            Fault::Unknown(position) => write!(f, "unknown {position}"),
+            Fault::Twice(position) => write!(f, "twice {position}"),
+            Fault::Arity(position) => write!(f, "arity {position}"),
+            Fault::TypeCycle(position) => write!(f, "type cycle {position}"),
+            Fault::OtherDomain(position) => write!(f, "other domain {position}"),
+            Fault::NoObject => f.write_str("no object"),
+            Fault::Limit(Which::Parameters, count) => write!(f, "limit parameters {count}"),
+            Fault::Limit(Which::Arity, count) => write!(f, "limit arity {count}"),
+            Fault::Limit(Which::Objects, count) => write!(f, "limit objects {count}"),
             Fault::Atoms(count) => write!(f, "atoms {count}"),
             Fault::Operations(count) => write!(f, "operations {count}"),
         }

@@ -1,27 +1,26 @@
 ghost use Rattle.std.specs.Prelude.{◌≡◌, ◌<◌, ◌≤◌, ◌^◌, length, map, All, IfOk, IfErr};
-ghost use Rattle.flag_rules.specs.Name.{IsName};
 ghost use Rattle.bfgp_outside.specs.Shelf.{Knowing, GoesOn};
-ghost use Rattle.pddl_parser.specs.Replies.{IsProblemReply};
+ghost use Rattle.pddl_parser.specs.Replies.{IsProblemReply, IsProblemText};
 ghost use Rattle.ground_state.specs.Instance.{IsInstance};
 ghost use Rattle.ground_state.specs.Action.{IsTableOf};
 ghost use Rattle.bfgp_tool.specs.declared.input.TheConstants.{MAX_INPUT_BYTES};
-ghost use Rattle.bfgp_tool.specs.Numbering.{name_of, IsInstanceReply};
+ghost use Rattle.pddl_task.specs.Replies.{IsInstanceReply};
 ghost use Rattle.bfgp_tool.specs.Grounding.{IsGroundReply};
-ghost use Rattle.bfgp_tool.specs.Faults.{parsing_fault, numbering_fault, ground_fault};
+ghost use Rattle.bfgp_tool.specs.Faults.{parsing_fault, task_fault, ground_fault};
 ghost use Rattle.bfgp_tool.specs.Steps.{or_tell, Gives};
 ghost use Rattle.bfgp_tool.specs.Due.{table_due, tables_due};
 ghost use Rattle.bfgp_tool.specs.Answers.{HaltCause, TellsOther};
-ghost use Rattle.bfgp_tool.specs.Domains.{IsNumberedDomain};
+ghost use Rattle.bfgp_tool.specs.Domains.{IsReadDomain};
 
 use crate::domain_reading::Domain;
 use crate::fault::{Fault, refuse};
 use crate::input::read_input;
-use crate::numbering::instance_parts;
 use crate::reply::Halt;
 use bfgp_outside::Shelf;
 use flag_rules::{List, Text};
 use ground_state::{AtomTable, Instance};
 use pddl_parser::ProblemText;
+use pddl_task::instance;
 use std::alloc::Global;
 
 /// Reads the instance files over a domain, in order, and gives the tables of their ground atoms.
@@ -31,7 +30,7 @@ pub fn tables_of<S: Shelf>(
     domain: &Domain,
     names: &[Text],
 ) -> Result<List<AtomTable>, Halt>
-    requires { IsNumberedDomain domain.now }
+    requires { IsReadDomain domain.now }
     ensures due { Knowing (S.files shelf.old) (λ files.
         Gives (tables_due files domain.now names.now) result) }
     ensures fit { IfOk result (λ tables. All (IsTableOf domain.now.task) tables) }
@@ -51,7 +50,7 @@ pub fn tables_of<S: Shelf>(
 /// Reads the bytes of an instance file over a domain, and gives the table of its ground atoms.
 fn table_of(alloc: Global, name: &[u8], domain: &Domain, bytes: &[u8]) -> Result<AtomTable, Halt>
     requires short { length bytes.now ≤ MAX_INPUT_BYTES }
-    requires numbered { IsNumberedDomain domain.now }
+    requires domain { IsReadDomain domain.now }
     ensures due { Gives (table_due name.now domain.now bytes.now) result }
     ensures fits { IfOk result (IsTableOf domain.now.task) }
     ensures cause { IfErr result TellsOther }
@@ -64,7 +63,7 @@ fn table_of(alloc: Global, name: &[u8], domain: &Domain, bytes: &[u8]) -> Result
 fn problem_text(alloc: Global, name: &[u8], bytes: &[u8]) -> Result<ProblemText, Halt>
     requires { length bytes.now ≤ MAX_INPUT_BYTES }
     ensures due { Gives (or_tell name.now parsing_fault (IsProblemReply bytes.now)) result }
-    ensures names { IfOk result (λ text. All IsName (map name_of text.objects)) }
+    ensures read { IfOk result IsProblemText }
     ensures cause { IfErr result TellsOther }
 {
     match pddl_parser::problem(alloc, bytes) {
@@ -79,15 +78,15 @@ fn instance_of(
     domain: &Domain,
     text: &ProblemText,
 ) -> Result<Instance, Halt>
-    requires numbered { IsNumberedDomain domain.now }
-    requires names { All IsName (map name_of text.now.objects) }
-    ensures due { Gives (or_tell name.now numbering_fault (IsInstanceReply domain.now.text text.now)) result }
+    requires domain { IsReadDomain domain.now }
+    requires text { IsProblemText text.now }
+    ensures due { Gives (or_tell name.now task_fault (IsInstanceReply domain.now.text text.now)) result }
     ensures fits { IfOk result (IsInstance domain.now.task) }
     ensures cause { IfErr result TellsOther }
 {
-    match instance_parts(alloc, &domain.text, text) {
-        Ok(parts) => Ok(Instance::new(&domain.task, parts)),
-        Err(refusal) => Err(refuse(alloc, name, Fault::of_numbering(refusal))),
+    match instance(alloc, &domain.task, &domain.text, text) {
+        Ok(instance) => Ok(instance),
+        Err(refusal) => Err(refuse(alloc, name, Fault::of_task(refusal))),
     }
 }
 

@@ -8,8 +8,6 @@ mod input;
 mod instance_reading;
 mod job;
 mod laws;
-mod names;
-mod numbering;
 mod reply;
 mod status;
 mod synth;

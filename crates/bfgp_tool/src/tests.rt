@@ -17,6 +17,9 @@ const LIGHTS: &str = "(define (domain lights)
   (:predicates (lit ?x))
   (:action light :parameters (?x) :precondition () :effect (lit ?x)))";
 
+const CELLS: &str = "(define (domain cells) (:types cell - place) (:predicates (seen ?x))
+  (:action look :parameters (?x - place) :effect (seen ?x)))";
+
 const LIT: &str =
     "(define (problem one) (:domain lights) (:objects a) (:init (lit a)) (:goal (lit a)))";
 
@@ -121,10 +124,6 @@ const USAGE: &str =
        bfgp gen FAMILY NUMBER
 ";
 
-const UNSUPPORTED_DOMAIN: &str = "input d unsupported 0\n";
-
-const UNSUPPORTED_INSTANCE: &str = "input i unsupported 0\n";
-
 // The words of a line, parted by single spaces.
 fn words_of(alloc: Global, line: &str) -> Result<Vec<String>, AllocError> {
     let mut words = Vec::new(alloc);
@@ -181,6 +180,36 @@ fn programs_and_refutations(rt: HostRuntime) -> Result<(), Fail> {
             LIT,
             Status::Done,
             SOLVED,
+        ),
+        (
+            SEARCH,
+            "; Größe\n(DEFINE (DOMAIN LIGHTS) (:REQUIREMENTS :STRIPS)\n(:PREDICATES (LIT ?X))\n(:ACTION LIGHT :PARAMETERS (?X) :PRECONDITION () :EFFECT (LIT ?X)))",
+            UNLIT,
+            Status::Done,
+            LIT_IN_TWO_LINES,
+        ),
+        // sections and parts in any order, conjunctions within others, and parts that are absent
+        (
+            SEARCH,
+            "(define (domain lights) (:action light :effect (and (and) (and (lit ?x)) ()) :parameters (?x)) (:predicates (lit ?x)))",
+            "(define (problem one) (:goal (and (and (lit a)) ())) (:objects a) (:domain lights))",
+            Status::Done,
+            LIT_IN_TWO_LINES,
+        ),
+        // an object of a type under that of the parameter, and one of another type, which is a constant
+        (
+            "synth --pointers 1 --lines 2 d i",
+            CELLS,
+            "(define (problem p) (:domain cells) (:objects a - cell) (:goal (seen a)))",
+            Status::Done,
+            "bfgp answer 1\npointers 1\nlines 2\ninstances 1\nverdict program 2\ntree 1\nf 0 0\ntree 2\ns 0 0\ng\nf 0 1\nprogram\nact look p0\nend\nends 0 1\nend of answer\n",
+        ),
+        (
+            "synth --pointers 1 --lines 2 d i",
+            "(define (domain cells) (:types cell - place) (:constants b) (:predicates (seen ?x)) (:action look :parameters (?x - place) :effect (seen ?x)))",
+            "(define (problem p) (:domain cells) (:objects a - cell) (:goal (seen b)))",
+            Status::No,
+            "bfgp answer 1\npointers 1\nlines 2\ninstances 1\nverdict none\ntree 1\nf 0 0\ntree 2\ns 0 0\nf 0 1\nf 0 1\nend of answer\n",
         ),
         (
             CALL,
@@ -255,119 +284,394 @@ fn words_that_are_no_job(rt: HostRuntime) -> Result<(), Fail> {
 }
 
 #[test]
-fn files_that_are_refused(rt: HostRuntime) -> Result<(), Fail> {
+fn files_that_are_absent(rt: HostRuntime) -> Result<(), Fail> {
+    for line in [
+        "synth --pointers 1 --lines 1 e i",
+        "synth --pointers 1 --lines 1 d i e",
+    ] {
+        let mut shelf = shelf_of(rt.alloc(), LIGHTS, LIT)?;
+        check(
+            &rt,
+            rt.alloc(),
+            line,
+            &mut shelf,
+            Status::Input,
+            "input e absent\n",
+        )?;
+    }
+    Ok(())
+}
+
+// A text in which `@` stands before the byte at which it has a fault of this kind: the text without it, and the line that
+// tells the fault of the file.
+fn told(alloc: Global, file: &str, kind: &str, marked: &str) -> Result<(String, String), Fail> {
+    let (front, rest) = marked.split_once('@').unwrap_or((marked, ""));
+    let mut text = String::from_str(alloc, front)?;
+    text.push_str(rest)?;
+    let line = format!(in alloc; "input {file} {kind} {}\n", front.len())?;
+    Ok((text, line))
+}
+
+#[test]
+fn domains_of_another_form(rt: HostRuntime) -> Result<(), Fail> {
+    let cases = [
+        ("unsupported", "(define (domain d) (:requirements @:adl))"),
+        ("unclosed", "@(define (domain d)"),
+        ("unopened", "(define (domain d))@)"),
+        ("byte", "(define (domain d) @% )"),
+        (
+            "shape",
+            "(define (domain d) (:predicates (p)) (@:predicates (q)))",
+        ),
+        ("shape", "@"),
+        ("shape", "; only\n;x@"),
+        ("unsupported", "(define (domain d) (@:goal (p)))"),
+        ("unsupported", "(define (domain d) (@:functions (p)))"),
+        ("shape", "(define (domain d) (:requirements @x))"),
+        ("unsupported", "(define (domain d) (:requirements @:types))"),
+        (
+            "shape",
+            "(define (domain d) (:action a :parameters () :precondition () :effect () @:foo))",
+        ),
+        (
+            "shape",
+            "(define (domain d) (:action a :parameters () :precondition () :effect () @:effect ()))",
+        ),
+        (
+            "shape",
+            "(define (domain d) (:action a :effect () @:effect ()))",
+        ),
+        ("unsupported", "(define (domain d) (:action a @:foo ()))"),
+        ("unsupported", "(define (domain d) (:action a @:types ()))"),
+        (
+            "shape",
+            "(define (domain d) (:action a :precondition @:effect ()))",
+        ),
+        ("shape", "(define (domain d) (:action @))"),
+        (
+            "unsupported",
+            "(define (domain d) (:types a - (@either b c)))",
+        ),
+        ("shape", "(define (domain d) (:types a - (@x)))"),
+        ("shape", "(define (domain d) (:types a - (@)))"),
+        ("shape", "(define (domain d) (:types a - (@or)))"),
+        ("shape", "(define (domain d) (:types a - (@= x)))"),
+        ("shape", "(define (domain d) (:types @- a))"),
+        ("shape", "(define (domain d) (:types a -@))"),
+        ("shape", "(define (domain d) (:types a @(either b)))"),
+        ("shape", "(define (domain d) (:types a @?x))"),
+        (
+            "unsupported",
+            "(define (domain d) (:predicates (p ?x - (@either b c))))",
+        ),
+        ("unsupported", "(define (domain d) (:predicates (@and ?x)))"),
+        (
+            "unsupported",
+            "(define (domain d) (:predicates (@= ?x ?y)))",
+        ),
+        (
+            "unsupported",
+            "(define (domain d) (:predicates (@either ?x)))",
+        ),
+        ("shape", "(define (domain d) (:predicates (p @x)))"),
+        ("shape", "(define (domain d) (:predicates @or))"),
+        ("shape", "(define (domain d) (:predicates (@)))"),
+        (
+            "shape",
+            "(define (domain d) (:action a :parameters (@either)))",
+        ),
+        (
+            "unsupported",
+            "(define (domain d) (:action a :parameters (?x - (@either a))))",
+        ),
+        (
+            "unsupported",
+            "(define (domain d) (:action a :precondition (@not (p))))",
+        ),
+        (
+            "unsupported",
+            "(define (domain d) (:action a :precondition (@= a b)))",
+        ),
+        (
+            "unsupported",
+            "(define (domain d) (:action a :precondition (and (@forall (?x)))))",
+        ),
+        (
+            "shape",
+            "(define (domain d) (:action a :precondition (and @or)))",
+        ),
+        (
+            "shape",
+            "(define (domain d) (:action a :precondition (p @= x)))",
+        ),
+        (
+            "unsupported",
+            "(define (domain d) (:action a :effect (not (@not (p)))))",
+        ),
+        (
+            "unsupported",
+            "(define (domain d) (:action a :effect (not (@and (p)))))",
+        ),
+        (
+            "unsupported",
+            "(define (domain d) (:action a :effect (not (@= a b))))",
+        ),
+        ("shape", "(define (domain d) (:action a :effect (not (@))))"),
+        ("shape", "(define (domain d) (:action a :effect (not @p)))"),
+        (
+            "unsupported",
+            "(define (domain d) (:action a :effect (@when (p) (q))))",
+        ),
+        (
+            "unsupported",
+            "(define (domain d) (:action a :effect (@increase (c) 1)))",
+        ),
+        ("shape", "(define (domain d) ) @x"),
+        ("shape", "(define (domain d) ) @(p)"),
+        ("shape", "(define (domain d @e))"),
+        ("shape", "(define (@problem d))"),
+        ("shape", "@define"),
+        ("shape", "(@)"),
+        ("shape", "(define (domain d) @:types)"),
+    ];
+    for (kind, marked) in cases {
+        let (domain, line) = told(rt.alloc(), "d", kind, marked)?;
+        let mut shelf = shelf_of(rt.alloc(), domain.as_str(), LIT)?;
+        check(
+            &rt,
+            rt.alloc(),
+            CALL,
+            &mut shelf,
+            Status::Input,
+            line.as_str(),
+        )?;
+    }
+    Ok(())
+}
+
+#[test]
+fn problems_of_another_form(rt: HostRuntime) -> Result<(), Fail> {
+    let cases = [
+        ("shape", "(define (problem p) (:domain d)@)"),
+        ("shape", "(define (problem p) (:goal ())@)"),
+        ("shape", "(define (problem p) @)"),
+        (
+            "shape",
+            "(define (problem p) (:domain d) (:requirements) (:objects) (:init) (:goal ()) @(:foo))",
+        ),
+        (
+            "unsupported",
+            "(define (problem p) (:domain d) (:requirements) (:objects) (:init) (@:foo))",
+        ),
+        ("shape", "(define (problem p) (:domain d) (@:domain e))"),
+        ("unsupported", "(define (problem p) (@:types a))"),
+        ("unsupported", "(define (problem p) (@:metric a))"),
+        ("unsupported", "(define (problem p) (:init (@not (p a))))"),
+        ("unsupported", "(define (problem p) (:init (@and (p a))))"),
+        ("unsupported", "(define (problem p) (:init (@= (f) 3)))"),
+        ("shape", "(define (problem p) (:init (@)))"),
+        ("shape", "(define (problem p) (:init (p @?x)))"),
+        ("unsupported", "(define (problem p) (:goal (@not (p))))"),
+        ("shape", "(define (problem p) (:goal@))"),
+        ("shape", "(define (problem p) (:goal () @()))"),
+        ("shape", "(define (problem p) (:goal (p @?x)))"),
+        (
+            "unsupported",
+            "(define (problem p) (:objects a - (@either b)))",
+        ),
+        (
+            "unsupported",
+            "(define (problem p) (:domain lights) (:objects a) (:init) (:goal (@= a a)))",
+        ),
+        ("shape", "(define (@domain d))"),
+    ];
+    for (kind, marked) in cases {
+        let (problem, line) = told(rt.alloc(), "i", kind, marked)?;
+        let mut shelf = shelf_of(rt.alloc(), LIGHTS, problem.as_str())?;
+        check(
+            &rt,
+            rt.alloc(),
+            CALL,
+            &mut shelf,
+            Status::Input,
+            line.as_str(),
+        )?;
+    }
+    Ok(())
+}
+
+#[test]
+fn domains_with_a_fault(rt: HostRuntime) -> Result<(), Fail> {
+    let cases = [
+        ("type cycle", "(define (domain d) (:types @object - x))"),
+        (
+            "type cycle",
+            "(define (domain d) (:types x - object @object - x))",
+        ),
+        ("type cycle", "(define (domain d) (:types a @object - b))"),
+        ("twice", "(define (domain d) (:types object @object))"),
+        (
+            "twice",
+            "(define (domain d) (:types object - object @object - x))",
+        ),
+        (
+            "type cycle",
+            "(define (domain d) (:types @object object - x))",
+        ),
+        (
+            "twice",
+            "(define (domain d) (:types a - object object - object @object - a))",
+        ),
+        (
+            "type cycle",
+            "(define (domain d) (:types @object - x object))",
+        ),
+        ("type cycle", "(define (domain d) (:types @a - b b - a))"),
+        (
+            "type cycle",
+            "(define (domain d) (:types @c - a a - b b - a))",
+        ),
+        ("type cycle", "(define (domain d) (:types @a - a))"),
+        ("type cycle", "(define (domain d) (:types @x a - a a))"),
+        ("twice", "(define (domain d) (:types a - object @a - a))"),
+        (
+            "twice",
+            "(define (domain d) (:types a - object @a - b b - a))",
+        ),
+        (
+            "unknown",
+            "(define (domain d) (:types t) (:constants c - @u))",
+        ),
+        ("unknown", "(define (domain d) (:constants c - @c))"),
+        ("twice", "(define (domain d) (:constants c - object c2 @c))"),
+        ("unknown", "(define (domain d) (:predicates (p ?x - @t)))"),
+        (
+            "twice",
+            "(define (domain d) (:predicates (p ?x) (@p ?x ?y)))",
+        ),
+        (
+            "arity",
+            "(define (domain d) (:action a :parameters (?x ?y) :effect (@p ?x ?y)) (:predicates (p ?x) (p ?x ?y)))",
+        ),
+        (
+            "unknown",
+            "(define (domain d) (:predicates (p ?x)) (:action a :effect (p @?x)))",
+        ),
+        (
+            "twice",
+            "(define (domain d) (:predicates (p ?x)) (:action a :parameters (?x @?x) :effect (p ?x)))",
+        ),
+        (
+            "unknown",
+            "(define (domain d) (:predicates (p ?x)) (:action a :effect (p @c)))",
+        ),
+        ("unknown", "(define (domain d) (:action a :effect (@q)))"),
+        (
+            "arity",
+            "(define (domain d) (:predicates (p ?x)) (:action a :effect (@p zz zz)))",
+        ),
+        ("twice", "(define (domain d) (:action a) (:action @a))"),
+    ];
+    for (kind, marked) in cases {
+        let (domain, line) = told(rt.alloc(), "d", kind, marked)?;
+        let mut shelf = shelf_of(rt.alloc(), domain.as_str(), LIT)?;
+        check(
+            &rt,
+            rt.alloc(),
+            CALL,
+            &mut shelf,
+            Status::Input,
+            line.as_str(),
+        )?;
+    }
+    Ok(())
+}
+
+#[test]
+fn problems_with_a_fault(rt: HostRuntime) -> Result<(), Fail> {
+    let constant = "(define (domain d) (:constants k) (:predicates (p ?x)))";
     let cases = [
         (
-            "synth --pointers 1 --lines 1 e i",
+            "unknown",
             LIGHTS,
-            LIT,
-            "input e absent\n",
+            "(define (problem p) (:domain lights) (:objects a) (:init) (:goal (lit @c)))",
         ),
         (
-            "synth --pointers 1 --lines 1 d i e",
+            "other domain",
             LIGHTS,
-            LIT,
-            "input e absent\n",
-        ),
-        (CALL, "(define (domain lights))", LIT, UNSUPPORTED_DOMAIN),
-        // a predicate, an action, a parameter that stands twice
-        (
-            CALL,
-            "(define (domain lights) (:predicates (lit ?x) (Lit)))",
-            LIT,
-            UNSUPPORTED_DOMAIN,
+            "(define (problem p) (:objects a) (:goal ()) (:domain @dark))",
         ),
         (
-            CALL,
-            "(define (domain lights) (:predicates (lit ?x)) (:action a :parameters () :precondition () :effect ()) (:action A :parameters () :precondition () :effect ()))",
-            LIT,
-            UNSUPPORTED_DOMAIN,
-        ),
-        (
-            CALL,
-            "(define (domain lights) (:predicates (lit ?x)) (:action a :parameters (?x ?X) :precondition () :effect ()))",
-            LIT,
-            UNSUPPORTED_DOMAIN,
-        ),
-        // an action's predicate, variable or object that is not known, and a wrong number of arguments
-        (
-            CALL,
-            "(define (domain lights) (:predicates (lit ?x)) (:action a :parameters (?x) :precondition (on ?x) :effect ()))",
-            LIT,
-            UNSUPPORTED_DOMAIN,
-        ),
-        (
-            CALL,
-            "(define (domain lights) (:predicates (lit ?x)) (:action a :parameters (?x) :precondition () :effect (not (lit ?y))))",
-            LIT,
-            UNSUPPORTED_DOMAIN,
-        ),
-        (
-            CALL,
-            "(define (domain lights) (:predicates (lit ?x)) (:action a :parameters (?x) :precondition () :effect (lit x)))",
-            LIT,
-            UNSUPPORTED_DOMAIN,
-        ),
-        (
-            CALL,
-            "(define (domain lights) (:predicates (lit ?x)) (:action a :parameters (?x) :precondition () :effect (lit ?x ?x)))",
-            LIT,
-            UNSUPPORTED_DOMAIN,
-        ),
-        // too many arguments, too many parameters
-        (
-            CALL,
-            "(define (domain lights) (:predicates (lit ?a ?b ?c ?d ?e)))",
-            LIT,
-            UNSUPPORTED_DOMAIN,
-        ),
-        (
-            CALL,
-            "(define (domain lights) (:predicates (lit ?x)) (:action a :parameters (?a ?b ?c ?d ?e ?f ?g) :precondition () :effect ()))",
-            LIT,
-            UNSUPPORTED_DOMAIN,
-        ),
-        (CALL, "", "", UNSUPPORTED_DOMAIN),
-        (
-            CALL,
+            "twice",
             LIGHTS,
-            "(define (problem p) (:domain lamps) (:objects a) (:init) (:goal (lit a)))",
-            UNSUPPORTED_INSTANCE,
+            "(define (problem p) (:objects a @a) (:goal ()) (:domain dark))",
         ),
         (
-            CALL,
-            LIGHTS,
-            "(define (problem p) (:domain lights) (:objects) (:init) (:goal (lit a)))",
-            UNSUPPORTED_INSTANCE,
+            "twice",
+            constant,
+            "(define (problem p) (:objects @k) (:goal ()) (:domain d))",
         ),
         (
-            CALL,
-            LIGHTS,
-            "(define (problem p) (:domain lights) (:objects a A) (:init) (:goal (lit a)))",
-            UNSUPPORTED_INSTANCE,
-        ),
-        (
-            CALL,
-            LIGHTS,
-            "(define (problem p) (:domain lights) (:objects a) (:init (lit b)) (:goal (lit a)))",
-            UNSUPPORTED_INSTANCE,
-        ),
-        (
-            CALL,
-            LIGHTS,
-            "(define (problem p) (:domain lights) (:objects a) (:init (on a)) (:goal (lit a)))",
-            UNSUPPORTED_INSTANCE,
-        ),
-        (
-            CALL,
-            LIGHTS,
-            "(define (problem p) (:domain lights) (:objects a) (:init) (:goal (lit a a)))",
-            UNSUPPORTED_INSTANCE,
+            "unknown",
+            constant,
+            "(define (problem p) (:objects a b - @k c d - k) (:goal (p k)) (:domain d))",
         ),
     ];
-    for (line, domain, instance, text) in cases {
+    for (kind, domain, marked) in cases {
+        let (problem, line) = told(rt.alloc(), "i", kind, marked)?;
+        let mut shelf = shelf_of(rt.alloc(), domain, problem.as_str())?;
+        check(
+            &rt,
+            rt.alloc(),
+            CALL,
+            &mut shelf,
+            Status::Input,
+            line.as_str(),
+        )?;
+    }
+    Ok(())
+}
+
+#[test]
+fn limits_of_tasks(rt: HostRuntime) -> Result<(), Fail> {
+    let cases = [
+        // parameters come before arities
+        (
+            "(define (domain d) (:predicates (p ?a ?b ?c ?d ?e)) (:action a) (:action b :parameters (?a ?b ?c ?d ?e ?f ?g)))",
+            LIT,
+            "input d limit parameters 7\n",
+        ),
+        (
+            "(define (domain d) (:predicates (p) (q ?a ?b ?c ?d ?e ?f) (r ?a ?b ?c ?d ?e)))",
+            LIT,
+            "input d limit arity 6\n",
+        ),
+        // a fault with a place comes before a limit
+        (
+            "(define (domain d) (:predicates (q ?a ?b ?c ?d ?e) (q)))",
+            LIT,
+            "input d twice 52\n",
+        ),
+        (
+            LIGHTS,
+            "(define (problem p) (:domain lights) (:goal ()))",
+            "input i no object\n",
+        ),
+    ];
+    for (domain, instance, line) in cases {
         let mut shelf = shelf_of(rt.alloc(), domain, instance)?;
-        check(&rt, rt.alloc(), line, &mut shelf, Status::Input, text)?;
+        check(&rt, rt.alloc(), CALL, &mut shelf, Status::Input, line)?;
+    }
+    Ok(())
+}
+
+#[test]
+fn lists_within_lists(rt: HostRuntime) -> Result<(), Fail> {
+    for (depth, line) in [(64, "input d unclosed 63\n"), (65, "input d too deep 64\n")] {
+        let domain = vec![in rt.alloc(); b'('; depth]?;
+        let mut shelf = shelf_of(rt.alloc(), "", LIT)?;
+        shelf.add(b"d", &domain)?;
+        check(&rt, rt.alloc(), CALL, &mut shelf, Status::Input, line)?;
     }
     Ok(())
 }
@@ -418,7 +722,7 @@ fn limits_at_their_bounds_and_one_past(rt: HostRuntime) -> Result<(), Fail> {
     for (objects, status, text) in [
         (128, Status::No, REFUTED),
         (129, Status::Input, "input i atoms 16641\n"),
-        (257, Status::Input, UNSUPPORTED_INSTANCE),
+        (257, Status::Input, "input i limit objects 257\n"),
     ] {
         let mut shelf = links(rt.alloc(), objects)?;
         let mut sink = MemorySink::new(rt.alloc(), 4096, 4096)?;

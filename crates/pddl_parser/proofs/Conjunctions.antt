@@ -9,6 +9,7 @@ use Rattle.pddl_parser.specs.declared.stop.Stop.TheVariants.{Refused, OutOfMemor
 use Rattle.pddl_parser.specs.Lexemes.{Lexeme, left, right, name}
 use Rattle.pddl_parser.specs.Grammar.{Conjunction, nothing, all_of, just, Conjuncts, finished, also}
 use Rattle.pddl_parser.specs.Reading.{Read, Reads, got, stuck, and_then, comes, comes_as, in_list, before_others, start, after_start, conjuncts_within, conjuncts, conjunction}
+pub use Rattle.pddl_parser.specs.Leaving.{Stays}
 use Rattle.pddl_parser.proofs.Fronts.{and_then-cases, right_comes, same_got, mark-left, literal-name}
 use Rattle.pddl_parser.proofs.Items.{Parses, after_items, after_items-push, after_items-stuck, after_items-got, before_others-got}
 
@@ -65,10 +66,6 @@ cond-same false f g = g refl
 pub passed : (ts : List Lexeme) → comes RightParen ts ≡ true → length (drop 1 ts) < length ts
 passed [] e = absurd cc
 passed (t ∷ ts) e = omega arith
-
--- an item leaves no more lexemes than there were
-abbrev pub Stays : {A : Type 0} → (List Lexeme → Read A) → Type 0
-Stays {A} body = (ts rest : List Lexeme) (value : A) → body ts ≡ got value rest → length rest ≤ length ts
 
 module _ {A : Type 0} (body : List Lexeme → Read A) (stays : Stays body) where
   -- what a start leads to depends on what is left alone

@@ -1,19 +1,16 @@
 -- The reading of each rule is what the grammar says.
 use Rattle.std.proofs.Common.{◌≡◌, ℕ, ◌+◌, ◌<◌, Bool, true, false, cond, List, [], ◌∷◌, length, codes, refl, arith}
 use Rattle.std.proofs.lemmas.Slice.Eq.{bytes_eq-Decides}
-use Rattle.pddl_lexer.specs.declared.lexer.Kind.{Kind}
-use Rattle.pddl_lexer.specs.declared.lexer.Kind.TheVariants.{RightParen, Name, Variable}
+use Rattle.pddl_lexer.specs.declared.lexer.Kind.TheVariants.{RightParen, Name}
 use Rattle.pddl_parser.specs.declared.stop.Why.TheVariants.{Unsupported}
 use Rattle.pddl_parser.specs.declared.formulas.Terms.{Terms}
 use Rattle.pddl_parser.specs.declared.formulas.Terms.TheVariants.{Names, NamesAndVariables}
 use Rattle.pddl_parser.specs.declared.texts.Word.{Word}
-use Rattle.pddl_parser.specs.declared.texts.Typed.{Typed}
 use Rattle.pddl_parser.specs.declared.texts.AtomText.{AtomText}
-use Rattle.pddl_parser.specs.declared.texts.PredText.{PredText}
-use Rattle.pddl_parser.specs.Lexemes.{Lexeme, left, right, name, variable, keyword}
-use Rattle.pddl_parser.specs.Grammar.{is_reserved, word, IsNameWord, is_name_word, IsHead, is_head, IsTerm, is_constant, is_argument, IsObject, is_object, IsParameter, is_parameter, Many, IsAtom, is_atom, IsPredicate, is_predicate, IsOpening, is_opening, IsSection, is_section, Closed, closed, IsPart, is_part, Listed, listed}
-use Rattle.pddl_parser.specs.Reading.{Read, got, stuck, and_then, comes, passing, any_word, untyped, head, many, in_list, term, atom_body, atom, predicate, opening, section_key, section, closed_item, part}
-use Rattle.pddl_parser.proofs.Fronts.{and_then-cases, same_got, mark-left, mark-right, literal-name, literal-keyword}
+use Rattle.pddl_parser.specs.Lexemes.{Lexeme, left, right, name, variable}
+use Rattle.pddl_parser.specs.Grammar.{is_reserved, word, IsNameWord, is_name_word, IsHead, is_head, IsTerm, is_constant, is_argument, Many, IsAtom, is_atom, IsOpening, is_opening, Closed, closed}
+use Rattle.pddl_parser.specs.Reading.{Read, got, stuck, and_then, comes, any_word, head, many, term, atom_body, atom, opening, closed_item}
+use Rattle.pddl_parser.proofs.Fronts.{and_then-cases, same_got, mark-left, mark-right, literal-name}
 use Rattle.pddl_parser.proofs.Items.{Parses, IsItem, Shrinks, item_shrinks, parses_many, Many-count}
 
 -- one word of each kind
@@ -28,40 +25,18 @@ name_word-complete ts rest w is_name_word = refl
 pub parses_name_word : Parses IsNameWord (any_word Name)
 parses_name_word = record { sound = name_word-sound; complete = name_word-complete }
 
-object-sound : (ts rest : List Lexeme) (w : Typed) → untyped Name ts ≡ got w rest → IsObject ts w rest
-object-sound [] rest w e = absurd cc
-object-sound (name text at ∷ ts) rest w e = let same = same_got e in rw (← same.0, ← same.1) is_object
-object-sound (_ ∷ ts) rest w e = absurd cc
-
-object-complete : (ts rest : List Lexeme) (w : Typed) → IsObject ts w rest → untyped Name ts ≡ got w rest
-object-complete ts rest w is_object = refl
-
-pub parses_object : Parses IsObject (untyped Name)
-parses_object = record { sound = object-sound; complete = object-complete }
-
-parameter-sound : (ts rest : List Lexeme) (w : Typed) → untyped Variable ts ≡ got w rest → IsParameter ts w rest
-parameter-sound [] rest w e = absurd cc
-parameter-sound (variable text at ∷ ts) rest w e = let same = same_got e in rw (← same.0, ← same.1) is_parameter
-parameter-sound (_ ∷ ts) rest w e = absurd cc
-
-parameter-complete : (ts rest : List Lexeme) (w : Typed) → IsParameter ts w rest → untyped Variable ts ≡ got w rest
-parameter-complete ts rest w is_parameter = refl
-
-pub parses_parameter : Parses IsParameter (untyped Variable)
-parses_parameter = record { sound = parameter-sound; complete = parameter-complete }
-
 -- a head
 -- a name that is not reserved
 free_head : (text : List ℕ) (at : ℕ) (ts rest : List Lexeme) (w : Word) (reserved : Bool) → is_reserved text ≡ reserved → cond reserved (stuck Unsupported (name text at ∷ ts)) (got (word text at) ts) ≡ got w rest → IsHead (name text at ∷ ts) w rest
 free_head text at ts rest w true is e = absurd cc
 free_head text at ts rest w false is e = let same = same_got e in rw (← same.0, ← same.1) (is_head is)
 
-head-sound : (ts rest : List Lexeme) (w : Word) → head ts ≡ got w rest → IsHead ts w rest
+pub head-sound : (ts rest : List Lexeme) (w : Word) → head ts ≡ got w rest → IsHead ts w rest
 head-sound [] rest w e = absurd cc
 head-sound (name text at ∷ ts) rest w e = free_head text at ts rest w (is_reserved text) refl e
 head-sound (_ ∷ ts) rest w e = absurd cc
 
-head-complete : (ts rest : List Lexeme) (w : Word) → IsHead ts w rest → head ts ≡ got w rest
+pub head-complete : (ts rest : List Lexeme) (w : Word) → IsHead ts w rest → head ts ≡ got w rest
 head-complete ts rest w (is_head free) = rw free refl
 
 -- what an argument may be
@@ -92,38 +67,7 @@ name_word_is_item = record { shorter = shorter; inside = inside }
     inside : (ts rest : List Lexeme) (w : Word) → IsNameWord ts w rest → comes RightParen ts ≡ false
     inside ts rest w is_name_word = refl
 
-pub object_is_item : IsItem IsObject
-object_is_item = record { shorter = shorter; inside = inside }
-  where
-    shorter : (ts rest : List Lexeme) (w : Typed) → IsObject ts w rest → length rest < length ts
-    shorter ts rest w is_object = omega arith
-
-    inside : (ts rest : List Lexeme) (w : Typed) → IsObject ts w rest → comes RightParen ts ≡ false
-    inside ts rest w is_object = refl
-
-pub parameter_is_item : IsItem IsParameter
-parameter_is_item = record { shorter = shorter; inside = inside }
-  where
-    shorter : (ts rest : List Lexeme) (w : Typed) → IsParameter ts w rest → length rest < length ts
-    shorter ts rest w is_parameter = omega arith
-
-    inside : (ts rest : List Lexeme) (w : Typed) → IsParameter ts w rest → comes RightParen ts ≡ false
-    inside ts rest w is_parameter = refl
-
--- a word that was read was a lexeme
-passing_shrinks : {A : Type 0} (found : Bool) (value other : A) (t : Lexeme) (ts rest : List Lexeme) → passing found value (t ∷ ts) ≡ got other rest → length rest < length (t ∷ ts)
-passing_shrinks true value other t ts rest e = let same = same_got e in rw (← same.1) (omega arith)
-passing_shrinks false value other t ts rest e = absurd cc
-
-pub any_word_shrinks : (kind : Kind) → Shrinks (any_word kind)
-any_word_shrinks kind [] rest w e = absurd cc
-any_word_shrinks kind (t ∷ ts) rest w e = passing_shrinks _ _ w t ts rest e
-
-pub untyped_shrinks : (kind : Kind) → Shrinks (untyped kind)
-untyped_shrinks kind [] rest w e = absurd cc
-untyped_shrinks kind (t ∷ ts) rest w e = passing_shrinks _ _ w t ts rest e
-
-head-shorter : (ts rest : List Lexeme) (w : Word) → IsHead ts w rest → length rest < length ts
+pub head-shorter : (ts rest : List Lexeme) (w : Word) → IsHead ts w rest → length rest < length ts
 head-shorter ts rest w (is_head free) = omega arith
 
 pub term_is_item : (terms : Terms) → IsItem (IsTermOf terms)
@@ -152,25 +96,12 @@ atom_is_item terms = record { shorter = λ ts rest a d. omega (arith, atom-short
     inside : (ts rest : List Lexeme) (a : AtomText) → IsAtom (IsTermOf terms) ts a rest → comes RightParen ts ≡ false
     inside ts rest a (is_atom d ds) = refl
 
-pub predicate_is_item : IsItem IsPredicate
-predicate_is_item = record { shorter = shorter; inside = inside }
-  where
-    shorter : (ts rest : List Lexeme) (p : PredText) → IsPredicate ts p rest → length rest < length ts
-    shorter ts rest p (is_predicate {ts = after} {mid = mid} {head = h} {params = params} d ds) =
-        omega (arith, head-shorter after mid h d, Many-count parameter_is_item mid rest params ds)
-
-    inside : (ts rest : List Lexeme) (p : PredText) → IsPredicate ts p rest → comes RightParen ts ≡ false
-    inside ts rest p (is_predicate d ds) = refl
-
 -- what holds of equal lexemes, values and rests
 pub carried : {A : Type 0} (Rule : List Lexeme → A → List Lexeme → Type 0) {ts us rest left_over : List Lexeme} {x y : A} → ts ≡ us → x ≡ y → left_over ≡ rest → Rule us x left_over → Rule ts y rest
 carried Rule p q r d = rw (p, ← q, ← r) d
 
 pub arguments : (terms : Terms) → Parses (Many (IsTermOf terms)) (many (term terms))
 arguments terms = parses_many (IsTermOf terms) (term terms) (term_is_item terms) (parses_term terms)
-
-pub parameters : Parses (Many IsParameter) (many (untyped Variable))
-parameters = parses_many IsParameter (untyped Variable) parameter_is_item parses_parameter
 
 -- `( HEAD term* )`
 atom-sound : (terms : Terms) (ts rest : List Lexeme) (a : AtomText) → atom terms ts ≡ got a rest → IsAtom (IsTermOf terms) ts a rest
@@ -193,28 +124,6 @@ parses_atom terms = record { sound = atom-sound terms; complete = atom-complete 
 
 pub atom_shrinks : (terms : Terms) → Shrinks (atom terms)
 atom_shrinks terms = item_shrinks (IsAtom (IsTermOf terms)) (atom terms) (atom_is_item terms) (parses_atom terms)
-
--- `( HEAD VARIABLE* )`
-predicate-sound : (ts rest : List Lexeme) (p : PredText) → predicate ts ≡ got p rest → IsPredicate ts p rest
-unfolding predicate
-predicate-sound ts rest p e =
-    let paren = and_then-cases _ _ _ _ e in
-    let first = and_then-cases _ _ _ _ paren.3 in
-    let others = and_then-cases _ _ _ _ first.3 in
-    let same = same_got others.3 in
-    let at = mark-left ts paren.1 paren.0 paren.2 in
-    carried IsPredicate at.1 same.0 same.1 (is_predicate (head-sound _ _ _ first.2) (parameters.sound _ _ _ others.2))
-
-predicate-complete : (ts rest : List Lexeme) (p : PredText) → IsPredicate ts p rest → predicate ts ≡ got p rest
-unfolding predicate and_then
-predicate-complete ts rest p (is_predicate {ts = after} {mid = mid} {head = h} {params = params} d ds) =
-    rw (head-complete after mid h d, parameters.complete mid rest params ds) refl
-
-pub parses_predicate : Parses IsPredicate predicate
-parses_predicate = record { sound = predicate-sound; complete = predicate-complete }
-
-pub predicate_shrinks : Shrinks predicate
-predicate_shrinks = item_shrinks IsPredicate predicate predicate_is_item parses_predicate
 
 -- `( define ( KIND NAME )`
 name_at : (ts rest : List Lexeme) (w : Word) → IsNameWord ts w rest → ts ≡ name w.text w.at ∷ rest
@@ -247,27 +156,6 @@ opening-complete kind ts rest own is_opening = rw ((bytes_eq-Decides kind kind).
 pub parses_opening : (kind : List ℕ) → Parses (IsOpening kind) (opening kind)
 parses_opening kind = record { sound = opening-sound kind; complete = opening-complete kind }
 
--- `( KEYWORD body`
-module _ {A : Type 0} (key : List ℕ) (Body : List Lexeme → A → List Lexeme → Type 0) (body : List Lexeme → Read A) (parses : Parses Body body) where
-  section_at : (a b c rest : List Lexeme) (value : A) (p q : ℕ) → a ≡ left p ∷ b → b ≡ keyword key q ∷ c → Body c value rest → IsSection key Body a value rest
-  section_at a b c rest value p q i j d = rw (i, j) (is_section d)
-
-  section-sound : (ts rest : List Lexeme) (value : A) → section key body ts ≡ got value rest → IsSection key Body ts value rest
-  unfolding section_key
-  section-sound ts rest value e =
-      let a = and_then-cases _ _ _ _ e in
-      let b = and_then-cases _ _ _ _ a.2 in
-      let p = mark-left _ _ _ b.2 in
-      let q = literal-keyword key _ _ _ b.3 in
-      section_at _ _ _ rest value _ _ p.1 q.1 (parses.sound _ _ _ a.3)
-
-  section-complete : (ts rest : List Lexeme) (value : A) → IsSection key Body ts value rest → section key body ts ≡ got value rest
-  unfolding section_key and_then
-  section-complete ts rest value (is_section {ts = after} d) = rw ((bytes_eq-Decides key key).1 refl) (parses.complete after rest value d)
-
-  pub parses_section : Parses (IsSection key Body) (section key body)
-  parses_section = record { sound = section-sound; complete = section-complete }
-
 -- an item and a right parenthesis
 module _ {A : Type 0} (Item : List Lexeme → A → List Lexeme → Type 0) (item : List Lexeme → Read A) (parses : Parses Item item) where
   closed_at : (a b rest : List Lexeme) (value : A) (p : ℕ) → b ≡ right p ∷ rest → Item a value b → Closed Item a value rest
@@ -287,39 +175,3 @@ module _ {A : Type 0} (Item : List Lexeme → A → List Lexeme → Type 0) (ite
 
   pub parses_closed : Parses (Closed Item) (closed_item item)
   parses_closed = record { sound = closed-sound; complete = closed-complete }
-
--- a keyword and a body
-module _ {A : Type 0} (key : List ℕ) (Body : List Lexeme → A → List Lexeme → Type 0) (body : List Lexeme → Read A) (parses : Parses Body body) where
-  part_at : (a b rest : List Lexeme) (value : A) (p : ℕ) → a ≡ keyword key p ∷ b → Body b value rest → IsPart key Body a value rest
-  part_at a b rest value p i d = rw i (is_part d)
-
-  part-sound : (ts rest : List Lexeme) (value : A) → part key body ts ≡ got value rest → IsPart key Body ts value rest
-  part-sound ts rest value e =
-      let a = and_then-cases _ _ _ _ e in
-      let p = literal-keyword key _ _ _ a.2 in
-      part_at ts _ rest value _ p.1 (parses.sound _ _ _ a.3)
-
-  part-complete : (ts rest : List Lexeme) (value : A) → IsPart key Body ts value rest → part key body ts ≡ got value rest
-  unfolding and_then
-  part-complete ts rest value (is_part {ts = after} d) = rw ((bytes_eq-Decides key key).1 refl) (parses.complete after rest value d)
-
-  pub parses_part : Parses (IsPart key Body) (part key body)
-  parses_part = record { sound = part-sound; complete = part-complete }
-
--- items within parentheses
-module _ {A : Type 0} (Item : List Lexeme → A → List Lexeme → Type 0) (items : List Lexeme → Read (List A)) (parses : Parses (Many Item) items) where
-  listed_at : (a b rest : List Lexeme) (value : List A) (p : ℕ) → a ≡ left p ∷ b → Many Item b value rest → Listed Item a value rest
-  listed_at a b rest value p i d = rw i (listed d)
-
-  listed-sound : (ts rest : List Lexeme) (value : List A) → in_list items ts ≡ got value rest → Listed Item ts value rest
-  listed-sound ts rest value e =
-      let a = and_then-cases _ _ _ _ e in
-      let p = mark-left _ _ _ a.2 in
-      listed_at ts _ rest value _ p.1 (parses.sound _ _ _ a.3)
-
-  listed-complete : (ts rest : List Lexeme) (value : List A) → Listed Item ts value rest → in_list items ts ≡ got value rest
-  unfolding and_then
-  listed-complete ts rest value (listed {ts = after} d) = parses.complete after rest value d
-
-  pub parses_listed : Parses (Listed Item) (in_list items)
-  parses_listed = record { sound = listed-sound; complete = listed-complete }

@@ -6,7 +6,7 @@ use Rattle.pddl_lexer.specs.declared.lexer.Kind.{Kind}
 use Rattle.pddl_lexer.specs.declared.lexer.Kind.TheVariants.{LeftParen, RightParen, Name, Variable, Keyword}
 use Rattle.pddl_parser.specs.declared.stop.Why.TheVariants.{Shape}
 use Rattle.pddl_lexer.specs.declared.lexer.Token.{Token}
-use Rattle.pddl_parser.specs.Lexemes.{Lexeme, left, right, name, keyword, lexeme, lower, lexemes}
+use Rattle.pddl_parser.specs.Lexemes.{Lexeme, left, right, name, lexeme, lower, lexemes}
 use Rattle.pddl_parser.specs.Reading.{Read, got, stuck, and_then, is_of, is_word, word_of, comes, comes_as, mark, literal}
 
 -- what a comparison without regard to case says of a word that comes first
@@ -67,8 +67,3 @@ pub literal-name : (text : List ℕ) (ts rest : List Lexeme) (u : Unit {0}) → 
 literal-name text [] rest u e = absurd cc
 literal-name text (name w p ∷ ts) rest u e = (p, given (λ w ts. name w p ∷ ts) text w ts rest u (bytes_eq w text) refl e)
 literal-name text (_ ∷ ts) rest u e = absurd cc
-
-pub literal-keyword : (text : List ℕ) (ts rest : List Lexeme) (u : Unit {0}) → literal Keyword text ts ≡ got u rest → (p : ℕ) × (ts ≡ keyword text p ∷ rest)
-literal-keyword text [] rest u e = absurd cc
-literal-keyword text (keyword w p ∷ ts) rest u e = (p, given (λ w ts. keyword w p ∷ ts) text w ts rest u (bytes_eq w text) refl e)
-literal-keyword text (_ ∷ ts) rest u e = absurd cc

@@ -8,6 +8,7 @@ use Rattle.pddl_parser.specs.declared.stop.Stop.TheVariants.{Refused, OutOfMemor
 use Rattle.pddl_parser.specs.Lexemes.{Lexeme}
 use Rattle.pddl_parser.specs.Grammar.{Many, close, more}
 use Rattle.pddl_parser.specs.Reading.{Read, Reads, got, stuck, and_then, comes, before_others, items_within, many}
+pub use Rattle.pddl_parser.specs.Leaving.{Shrinks}
 use Rattle.pddl_parser.proofs.Fronts.{and_then-cases, right_comes, same_got}
 
 -- reading is what the grammar says
@@ -40,10 +41,6 @@ after_items-got (x ∷ out) items rest = ap (before_others x) (after_items-got o
 pub before_others-got : {A : Type 0} (value : A) (r : Read (List A)) (all : List A) (rest : List Lexeme) → before_others value r ≡ got all rest → (items : List A) × (r ≡ got items rest) × (all ≡ value ∷ items)
 before_others-got value (got items mid) all rest e = let same = same_got e in (items, ap (got items) same.1, sym same.0)
 before_others-got value (stuck why bad) all rest e = absurd cc
-
--- reading an item takes a lexeme at least
-abbrev pub Shrinks : {A : Type 0} → (List Lexeme → Read A) → Type 0
-Shrinks {A} item = (ts rest : List Lexeme) (value : A) → item ts ≡ got value rest → length rest < length ts
 
 module _ {A : Type 0} (item : List Lexeme → Read A) (shrinks : Shrinks item) where
   -- what an item leads to depends on what is left alone

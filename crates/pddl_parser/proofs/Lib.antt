@@ -1,8 +1,31 @@
-mod Conjunctions
-mod ConjunctionRules
-mod Exact
-mod Fronts
-mod Items
+pub mod Branches
+pub mod Choices
+pub mod Chosen
+pub mod ConjunctionReaders
+pub mod ConjunctionRules
+pub mod Conjunctions
+pub mod Counts
+pub mod DomainRules
+pub mod Exact
+pub mod Fronts
+pub mod HasReply
+pub mod Items
+pub mod Offences
+pub mod OneLexeme
+pub mod OneReply
+pub mod ProblemReaders
+pub mod ProblemRules
+pub mod Readable
+pub mod Readers
+pub mod Rounds
+pub mod SectionReaders
+pub mod SectionRounds
+pub mod SectionRules
+pub mod Sections
+pub mod SpelledRules
 pub mod Spelling
+pub mod Turns
+pub mod TypedReaders
+pub mod TypedRules
+pub mod TypedSteps
 pub mod Wholes
-mod WholeRules

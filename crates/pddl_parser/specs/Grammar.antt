@@ -1,17 +1,28 @@
 -- The grammar of the texts, after PDDL 1.2, one relation for each rule. `Rule lexemes value rest` says that the first
--- lexemes are spelled by the rule and have this value, and that the others are the rest. A list of items carries the
--- right parenthesis that closes it. NAME is any name, VARIABLE any variable, and HEAD a name that is not reserved.
+-- lexemes are spelled by the rule and have this value, and that the others are the rest. A rule that stands within a list
+-- carries the right parenthesis that closes the list. NAME is any name, VARIABLE any variable, and HEAD a name that is not
+-- reserved.
 --
---     domain    = ( define ( domain NAME ) ( :predicates pred* ) action* )
---     pred      = ( HEAD VARIABLE* )
---     action    = ( :action NAME :parameters ( VARIABLE* ) :precondition formula :effect effect )
+--     domain    = ( define ( domain NAME ) dsection* )
+--     dsection  = ( :requirements REQ* ) | ( :types names ) | ( :constants names ) | ( :predicates pred* ) | ( :action NAME part* )
+--     problem   = ( define ( problem NAME ) psection* )
+--     psection  = ( :domain NAME ) | ( :requirements REQ* ) | ( :objects names ) | ( :init gatom* ) | ( :goal gformula )
+--     names     = (NAME+ - NAME)* NAME*                  vars = (VARIABLE+ - NAME)* VARIABLE*
+--     pred      = ( HEAD vars )                          REQ  = :strips | :typing
+--     part      = :parameters ( vars ) | :precondition formula | :effect effect
 --     formula   = ( ) | ( and formula* ) | atom
 --     effect    = ( ) | ( and effect* ) | change         change = atom | ( not atom )
 --     atom      = ( HEAD term* )                         term = NAME | VARIABLE
---     problem   = ( define ( problem NAME ) ( :domain NAME ) ( :objects NAME* ) ( :init gatom* ) ( :goal gformula ) )
 --     gformula  = ( ) | ( and gformula* ) | gatom
 --     gatom     = ( HEAD NAME* )
-use Rattle.std.specs.Prelude.{◌≡◌, ℕ, Bool, false, List, [], ◌∷◌, ◌++◌, None, codes, bytes_eq}
+--
+-- In `names` and `vars` the round brackets only group. Sections come in any order, each at most once, `:action` any
+-- number of times; so do the parts of an action, each at most once. A problem has `:domain` and `:goal`. Any other
+-- section, and any part, may be absent and is then empty.
+--
+-- One rule more has no text of bytes: in `names` and `vars` a group may end with `- (` and a gap in place of its type. It
+-- is there for the places of refusals alone.
+use Rattle.std.specs.Prelude.{◌≡◌, ℕ, Bool, true, false, List, [], ◌∷◌, ◌++◌, map, Option, Some, None, codes, bytes_eq}
 use Rattle.std.specs.List.{list_any}
 use Rattle.pddl_parser.specs.declared.texts.Word.{Word}
 use Rattle.pddl_parser.specs.declared.texts.Typed.{Typed}
@@ -22,7 +33,14 @@ use Rattle.pddl_parser.specs.declared.texts.DomainText.{DomainText}
 use Rattle.pddl_parser.specs.declared.texts.ProblemText.{ProblemText}
 use Rattle.pddl_parser.specs.declared.formulas.AtomChange.{AtomChange}
 use Rattle.pddl_parser.specs.declared.formulas.AtomChange.TheVariants.{Added, Deleted}
-use Rattle.pddl_parser.specs.Lexemes.{Lexeme, left, right, name, variable, keyword}
+pub use Rattle.pddl_parser.specs.declared.actions.ActionParts.{ActionParts}
+pub use Rattle.pddl_parser.specs.declared.domain_sections.DomainSections.{DomainSections}
+pub use Rattle.pddl_parser.specs.declared.problem_sections.ProblemSections.{ProblemSections}
+use Rattle.pddl_parser.specs.Lexemes.{Lexeme, left, right, name, variable, keyword, dash, gap}
+
+-- one of some words
+abbrev pub is_one_of : List (List ℕ) → List ℕ → Bool
+is_one_of words text = list_any (bytes_eq text) words
 
 -- the names that head no atom and no predicate
 abbrev pub reserved_heads : List (List ℕ)
@@ -32,7 +50,7 @@ reserved_heads =
 
 -- the name may not head an atom or a predicate
 abbrev pub is_reserved : List ℕ → Bool
-is_reserved text = list_any (bytes_eq text) reserved_heads
+is_reserved text = is_one_of reserved_heads text
 
 -- a word with its text and its place
 abbrev pub word : List ℕ → ℕ → Word
@@ -50,14 +68,6 @@ pub data IsHead : List Lexeme → Word → List Lexeme → Type 0 where
 pub data IsTerm : List Lexeme → Word → List Lexeme → Type 0 where
   is_constant : {text : List ℕ} {at : ℕ} {rest : List Lexeme} → IsTerm (name text at ∷ rest) (word text at) rest
   is_argument : {text : List ℕ} {at : ℕ} {rest : List Lexeme} → IsTerm (variable text at ∷ rest) (word text at) rest
-
--- NAME, without a type
-pub data IsObject : List Lexeme → Typed → List Lexeme → Type 0 where
-  is_object : {text : List ℕ} {at : ℕ} {rest : List Lexeme} → IsObject (name text at ∷ rest) (record { word = word text at; of = None }) rest
-
--- VARIABLE, without a type
-pub data IsParameter : List Lexeme → Typed → List Lexeme → Type 0 where
-  is_parameter : {text : List ℕ} {at : ℕ} {rest : List Lexeme} → IsParameter (variable text at ∷ rest) (record { word = word text at; of = None }) rest
 
 -- item* )
 pub data Many {A : Type 0} (Item : List Lexeme → A → List Lexeme → Type 0) : List Lexeme → List A → List Lexeme → Type 0 where
@@ -79,10 +89,6 @@ IsGroundAtom = IsAtom IsNameWord
 -- atom = ( HEAD term* )
 abbrev pub IsLiftedAtom : List Lexeme → AtomText → List Lexeme → Type 0
 IsLiftedAtom = IsAtom IsTerm
-
--- pred = ( HEAD VARIABLE* )
-pub data IsPredicate : List Lexeme → PredText → List Lexeme → Type 0 where
-  is_predicate : {p : ℕ} {ts mid rest : List Lexeme} {head : Word} {params : List Typed} → IsHead ts head mid → Many IsParameter mid params rest → IsPredicate (left p ∷ ts) (record { head = head; params = params }) rest
 
 mutual
   -- conjunction = ( ) | ( and conjunction* ) | item, with its items in order of the text
@@ -125,37 +131,127 @@ pub data IsSection {A : Type 0} (key : List ℕ) (Body : List Lexeme → A → L
 pub data IsPart {A : Type 0} (key : List ℕ) (Body : List Lexeme → A → List Lexeme → Type 0) : List Lexeme → A → List Lexeme → Type 0 where
   is_part : {p : ℕ} {ts rest : List Lexeme} {value : A} → Body ts value rest → IsPart key Body (keyword key p ∷ ts) value rest
 
--- ( item* )
-pub data Listed {A : Type 0} (Item : List Lexeme → A → List Lexeme → Type 0) : List Lexeme → List A → List Lexeme → Type 0 where
-  listed : {p : ℕ} {ts rest : List Lexeme} {items : List A} → Many Item ts items rest → Listed Item (left p ∷ ts) items rest
+-- VARIABLE
+pub data IsVariableWord : List Lexeme → Word → List Lexeme → Type 0 where
+  is_variable_word : {text : List ℕ} {at : ℕ} {rest : List Lexeme} → IsVariableWord (variable text at ∷ rest) (word text at) rest
 
--- NAME :parameters ( VARIABLE* ) :precondition formula :effect effect
-pub data IsActionBody : List Lexeme → ActionText → List Lexeme → Type 0 where
-  is_action_body : {ts after_name after_params after_pre rest : List Lexeme} {own : Word} {params : List Typed} {pre : List AtomText} {changes : List AtomChange}
-      → IsNameWord ts own after_name
-      → IsPart (codes ":parameters") (Listed IsParameter) after_name params after_params
-      → IsPart (codes ":precondition") (Conjunction IsLiftedAtom) after_params pre after_pre
-      → IsPart (codes ":effect") (Conjunction IsChange) after_pre changes rest
-      → IsActionBody ts (record { name = own; params = params; pre = pre; add = added changes; del = deleted changes }) rest
+-- the words of `:requirements`
+abbrev pub requirement_keywords : List (List ℕ)
+requirement_keywords = codes ":strips" ∷ codes ":typing" ∷ []
 
--- action = ( :action NAME :parameters ( VARIABLE* ) :precondition formula :effect effect )
-abbrev pub IsAction : List Lexeme → ActionText → List Lexeme → Type 0
-IsAction = IsSection (codes ":action") (Closed IsActionBody)
+-- REQ
+pub data IsRequirement : List Lexeme → Word → List Lexeme → Type 0 where
+  is_requirement : {text : List ℕ} {at : ℕ} {rest : List Lexeme} → is_one_of requirement_keywords text ≡ true → IsRequirement (keyword text at ∷ rest) (word text at) rest
 
--- the whole of a list of lexemes is a domain
-pub data IsDomain : List Lexeme → DomainText → Type 0 where
-  is_domain : {ts after_name after_predicates : List Lexeme} {own : Word} {predicates : List PredText} {actions : List ActionText}
-      → IsOpening (codes "domain") ts own after_name
-      → IsSection (codes ":predicates") (Many IsPredicate) after_name predicates after_predicates
-      → Many IsAction after_predicates actions []
-      → IsDomain ts (record { name = own; requirements = []; types = []; constants = []; predicates = predicates; actions = actions })
+-- a word to which its list gives this type, or none
+abbrev pub typed : Option Word → Word → Typed
+typed of w = record { word = w; of = of }
 
--- the whole of a list of lexemes is a problem
-pub data IsProblem : List Lexeme → ProblemText → Type 0 where
-  is_problem : {z : ℕ} {ts after_name after_domain after_objects after_init : List Lexeme} {own domain : Word} {objects : List Typed} {init goal : List AtomText}
-      → IsOpening (codes "problem") ts own after_name
-      → IsSection (codes ":domain") (Closed IsNameWord) after_name domain after_domain
-      → IsSection (codes ":objects") (Many IsObject) after_domain objects after_objects
-      → IsSection (codes ":init") (Many IsGroundAtom) after_objects init after_init
-      → IsSection (codes ":goal") (Closed (Conjunction IsGroundAtom)) after_init goal (right z ∷ [])
-      → IsProblem ts (record { name = own; domain = domain; requirements = []; objects = objects; init = init; goal = goal })
+-- item+ - : one or more words, and the dash after them
+pub data Group (Item : List Lexeme → Word → List Lexeme → Type 0) : List Lexeme → List Word → List Lexeme → Type 0 where
+  last : {p : ℕ} {ts rest : List Lexeme} {w : Word} → Item ts w (dash p ∷ rest) → Group Item ts (w ∷ []) rest
+  with_next : {ts mid rest : List Lexeme} {w : Word} {ws : List Word} → Item ts w mid → Group Item mid ws rest → Group Item ts (w ∷ ws) rest
+
+-- (item+ - NAME)* item* ), or with a gap after `- (` in the place of a type
+pub data TypedList (Item : List Lexeme → Word → List Lexeme → Type 0) : List Lexeme → List Typed → List Lexeme → Type 0 where
+  untyped_words : {ts rest : List Lexeme} {ws : List Word} → Many Item ts ws rest → TypedList Item ts (map (typed None) ws) rest
+  typed_group : {q : ℕ} {text : List ℕ} {ts mid rest : List Lexeme} {ws : List Word} {others : List Typed}
+      → Group Item ts ws (name text q ∷ mid) → TypedList Item mid others rest → TypedList Item ts (map (typed (Some (word text q))) ws ++ others) rest
+  open_group : {p q : ℕ} {ts mid rest : List Lexeme} {ws : List Word} {others : List Typed}
+      → Group Item ts ws (left p ∷ gap q ∷ mid) → TypedList Item mid others rest → TypedList Item ts (map (typed None) ws ++ others) rest
+
+-- names )
+abbrev pub IsNames : List Lexeme → List Typed → List Lexeme → Type 0
+IsNames = TypedList IsNameWord
+
+-- vars )
+abbrev pub IsVariables : List Lexeme → List Typed → List Lexeme → Type 0
+IsVariables = TypedList IsVariableWord
+
+-- ( body, where the body carries the right parenthesis
+pub data Opened {A : Type 0} (Body : List Lexeme → A → List Lexeme → Type 0) : List Lexeme → A → List Lexeme → Type 0 where
+  opened : {p : ℕ} {ts rest : List Lexeme} {value : A} → Body ts value rest → Opened Body (left p ∷ ts) value rest
+
+-- pred = ( HEAD vars )
+pub data IsPredicate : List Lexeme → PredText → List Lexeme → Type 0 where
+  is_predicate : {p : ℕ} {ts mid rest : List Lexeme} {head : Word} {params : List Typed} → IsHead ts head mid → IsVariables mid params rest → IsPredicate (left p ∷ ts) (record { head = head; params = params }) rest
+
+-- nothing, where there is none
+abbrev pub or_empty : {A : Type 0} → Option (List A) → List A
+or_empty None = []
+or_empty (Some items) = items
+
+-- none of the parts
+abbrev pub no_parts : ActionParts
+no_parts = record { params = None; pre = None; changes = None }
+
+-- part* ), each at most once, after those that stand already
+pub data IsParts : ActionParts → List Lexeme → ActionParts → List Lexeme → Type 0 where
+  no_more_parts : {p : ℕ} {rest : List Lexeme} {seen : ActionParts} → IsParts seen (right p ∷ rest) seen rest
+  parameters : {seen all : ActionParts} {ts mid rest : List Lexeme} {params : List Typed} → seen.params ≡ None
+      → IsPart (codes ":parameters") (Opened IsVariables) ts params mid → IsParts (record seen { params = Some params }) mid all rest → IsParts seen ts all rest
+  precondition : {seen all : ActionParts} {ts mid rest : List Lexeme} {pre : List AtomText} → seen.pre ≡ None
+      → IsPart (codes ":precondition") (Conjunction IsLiftedAtom) ts pre mid → IsParts (record seen { pre = Some pre }) mid all rest → IsParts seen ts all rest
+  effect : {seen all : ActionParts} {ts mid rest : List Lexeme} {changes : List AtomChange} → seen.changes ≡ None
+      → IsPart (codes ":effect") (Conjunction IsChange) ts changes mid → IsParts (record seen { changes = Some changes }) mid all rest → IsParts seen ts all rest
+
+-- an action of these parts
+abbrev pub action_of : Word → ActionParts → ActionText
+action_of own parts =
+    record { name = own; params = or_empty parts.params; pre = or_empty parts.pre; add = added (or_empty parts.changes); del = deleted (or_empty parts.changes) }
+
+-- NAME part* )
+pub data IsAction : List Lexeme → ActionText → List Lexeme → Type 0 where
+  is_action : {ts mid rest : List Lexeme} {own : Word} {parts : ActionParts} → IsNameWord ts own mid → IsParts no_parts mid parts rest → IsAction ts (action_of own parts) rest
+
+-- none of the sections
+abbrev pub no_domain_sections : DomainSections
+no_domain_sections = record { requirements = None; types = None; constants = None; predicates = None; actions = [] }
+
+-- dsection* ), each at most once but for actions, after those that stand already
+pub data IsDomainSections : DomainSections → List Lexeme → DomainSections → List Lexeme → Type 0 where
+  no_more_sections : {p : ℕ} {rest : List Lexeme} {seen : DomainSections} → IsDomainSections seen (right p ∷ rest) seen rest
+  requirements : {seen all : DomainSections} {ts mid rest : List Lexeme} {words : List Word} → seen.requirements ≡ None
+      → IsSection (codes ":requirements") (Many IsRequirement) ts words mid → IsDomainSections (record seen { requirements = Some words }) mid all rest → IsDomainSections seen ts all rest
+  types : {seen all : DomainSections} {ts mid rest : List Lexeme} {names : List Typed} → seen.types ≡ None
+      → IsSection (codes ":types") IsNames ts names mid → IsDomainSections (record seen { types = Some names }) mid all rest → IsDomainSections seen ts all rest
+  constants : {seen all : DomainSections} {ts mid rest : List Lexeme} {names : List Typed} → seen.constants ≡ None
+      → IsSection (codes ":constants") IsNames ts names mid → IsDomainSections (record seen { constants = Some names }) mid all rest → IsDomainSections seen ts all rest
+  predicates : {seen all : DomainSections} {ts mid rest : List Lexeme} {preds : List PredText} → seen.predicates ≡ None
+      → IsSection (codes ":predicates") (Many IsPredicate) ts preds mid → IsDomainSections (record seen { predicates = Some preds }) mid all rest → IsDomainSections seen ts all rest
+  action : {seen all : DomainSections} {ts mid rest : List Lexeme} {a : ActionText}
+      → IsSection (codes ":action") IsAction ts a mid → IsDomainSections (record seen { actions = seen.actions ++ a ∷ [] }) mid all rest → IsDomainSections seen ts all rest
+
+-- a domain of these sections
+abbrev pub domain_of : Word → DomainSections → DomainText
+domain_of own s =
+    record { name = own; requirements = or_empty s.requirements; types = or_empty s.types; constants = or_empty s.constants; predicates = or_empty s.predicates; actions = s.actions }
+
+-- domain = ( define ( domain NAME ) dsection* )
+pub data IsDomain : List Lexeme → DomainText → List Lexeme → Type 0 where
+  is_domain : {ts mid rest : List Lexeme} {own : Word} {all : DomainSections}
+      → IsOpening (codes "domain") ts own mid → IsDomainSections no_domain_sections mid all rest → IsDomain ts (domain_of own all) rest
+
+-- none of the sections
+abbrev pub no_problem_sections : ProblemSections
+no_problem_sections = record { domain = None; requirements = None; objects = None; init = None; goal = None }
+
+-- psection* ), each at most once, after those that stand already; at the end `:domain` and `:goal` stand
+pub data IsProblemSections : ProblemSections → List Lexeme → ProblemSections → List Lexeme → Type 0 where
+  all_stand : {p : ℕ} {rest : List Lexeme} {seen : ProblemSections} {of : Word} {goal : List AtomText} → seen.domain ≡ Some of → seen.goal ≡ Some goal → IsProblemSections seen (right p ∷ rest) seen rest
+  of_domain : {seen all : ProblemSections} {ts mid rest : List Lexeme} {of : Word} → seen.domain ≡ None
+      → IsSection (codes ":domain") (Closed IsNameWord) ts of mid → IsProblemSections (record seen { domain = Some of }) mid all rest → IsProblemSections seen ts all rest
+  needs : {seen all : ProblemSections} {ts mid rest : List Lexeme} {words : List Word} → seen.requirements ≡ None
+      → IsSection (codes ":requirements") (Many IsRequirement) ts words mid → IsProblemSections (record seen { requirements = Some words }) mid all rest → IsProblemSections seen ts all rest
+  objects : {seen all : ProblemSections} {ts mid rest : List Lexeme} {names : List Typed} → seen.objects ≡ None
+      → IsSection (codes ":objects") IsNames ts names mid → IsProblemSections (record seen { objects = Some names }) mid all rest → IsProblemSections seen ts all rest
+  init : {seen all : ProblemSections} {ts mid rest : List Lexeme} {atoms : List AtomText} → seen.init ≡ None
+      → IsSection (codes ":init") (Many IsGroundAtom) ts atoms mid → IsProblemSections (record seen { init = Some atoms }) mid all rest → IsProblemSections seen ts all rest
+  goal : {seen all : ProblemSections} {ts mid rest : List Lexeme} {atoms : List AtomText} → seen.goal ≡ None
+      → IsSection (codes ":goal") (Closed (Conjunction IsGroundAtom)) ts atoms mid → IsProblemSections (record seen { goal = Some atoms }) mid all rest → IsProblemSections seen ts all rest
+
+-- problem = ( define ( problem NAME ) psection* )
+pub data IsProblem : List Lexeme → ProblemText → List Lexeme → Type 0 where
+  is_problem : {ts mid rest : List Lexeme} {own of : Word} {all : ProblemSections}
+      → IsOpening (codes "problem") ts own mid → IsProblemSections no_problem_sections mid all rest → all.domain ≡ Some of
+      → IsProblem ts (record { name = own; domain = of; requirements = or_empty all.requirements; objects = or_empty all.objects; init = or_empty all.init; goal = or_empty all.goal }) rest

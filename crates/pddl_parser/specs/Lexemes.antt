@@ -1,11 +1,13 @@
 -- What a reader of PDDL sees of a text: its tokens, with their words in lower case and their places.
-use Rattle.std.specs.Prelude.{ℕ, List, map, slice_range}
+use Rattle.std.specs.Prelude.{ℕ, List, [], ◌∷◌, map, slice_range}
 use Rattle.std.specs.Char.{to_ascii_lowercase}
 use Rattle.pddl_lexer.specs.declared.lexer.Kind.{Kind}
 use Rattle.pddl_lexer.specs.declared.lexer.Kind.TheVariants.{LeftParen, RightParen, Name, Variable, Keyword, Dash, Equal}
 use Rattle.pddl_lexer.specs.declared.lexer.Token.{Token}
 
--- a token as it is read: where it stands, and for a word its text in lower case, with the `?` or `:` that begins it
+-- A token as it is read: where it stands, and for a word its text in lower case, with the `?` or `:` that begins it.
+-- `gap` is no token, and the lexemes of bytes have none. It stands after the dash and the left parenthesis of a type that
+-- the grammar leaves out, as in `- (either a b)`, so that what comes up to this parenthesis still begins a text.
 pub data Lexeme : Type 0 where
   left : ℕ → Lexeme
   right : ℕ → Lexeme
@@ -14,6 +16,7 @@ pub data Lexeme : Type 0 where
   keyword : List ℕ → ℕ → Lexeme
   dash : ℕ → Lexeme
   equal : ℕ → Lexeme
+  gap : ℕ → Lexeme
 
 -- a token of a kind as it is read; the marks keep no text
 abbrev pub lexeme : Kind → List ℕ → ℕ → Lexeme
@@ -36,3 +39,19 @@ see bytes token = lexeme token.kind (lower (slice_range bytes token.from token.t
 -- the tokens of a text as they are read
 abbrev pub lexemes : List ℕ → List Token → List Lexeme
 lexemes bytes tokens = map (see bytes) tokens
+
+-- where a lexeme stands
+abbrev pub at_of : Lexeme → ℕ
+at_of (left at) = at
+at_of (right at) = at
+at_of (name text at) = at
+at_of (variable text at) = at
+at_of (keyword text at) = at
+at_of (dash at) = at
+at_of (equal at) = at
+at_of (gap at) = at
+
+-- where the first of some lexemes stands, which is the end of the text where there is none
+abbrev pub place_of : ℕ → List Lexeme → ℕ
+place_of end [] = end
+place_of end (t ∷ ts) = at_of t

@@ -1,4 +1,12 @@
-pub mod Grammar
 pub mod Lexemes
+pub mod Grammar
+pub mod Offending
 pub mod Reading
+pub mod TypedReading
+pub mod Choosing
+pub mod SectionReading
+pub mod Spelled
 pub mod Replies
+pub mod Answering
+pub mod GroupReading
+pub mod Leaving

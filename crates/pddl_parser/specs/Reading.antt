@@ -1,5 +1,5 @@
--- Reading lexeme by lexeme: what a part of a text gives, or why it is none and where.
-use Rattle.std.specs.Prelude.{◌≡◌, ℕ, zero, suc, Bool, true, false, ◌||◌, ◌&&◌, List, [], ◌∷◌, length, drop, Result, Ok, Err, None, codes, bytes_eq, if◌then◌else◌}
+-- The contract of the code: reading lexeme by lexeme, which gives a part of a text, or tells why it is none and where.
+use Rattle.std.specs.Prelude.{◌≡◌, ℕ, zero, suc, Bool, true, false, ◌||◌, ◌&&◌, List, [], ◌∷◌, length, drop, Result, Ok, Err, codes, bytes_eq, if◌then◌else◌}
 use Rattle.std.specs.List.{list_any}
 use Rattle.pddl_lexer.specs.declared.lexer.Kind.{Kind}
 use Rattle.pddl_lexer.specs.declared.lexer.Kind.TheVariants.{LeftParen, RightParen, Name, Variable, Keyword, Dash, Equal}
@@ -8,12 +8,7 @@ use Rattle.pddl_parser.specs.declared.stop.Why.TheVariants.{Shape, Unsupported}
 use Rattle.pddl_parser.specs.declared.stop.Stop.{Stop}
 use Rattle.pddl_parser.specs.declared.stop.Stop.TheVariants.{Refused, OutOfMemory}
 use Rattle.pddl_parser.specs.declared.texts.Word.{Word}
-use Rattle.pddl_parser.specs.declared.texts.Typed.{Typed}
 use Rattle.pddl_parser.specs.declared.texts.AtomText.{AtomText}
-use Rattle.pddl_parser.specs.declared.texts.PredText.{PredText}
-use Rattle.pddl_parser.specs.declared.texts.ActionText.{ActionText}
-use Rattle.pddl_parser.specs.declared.texts.DomainText.{DomainText}
-use Rattle.pddl_parser.specs.declared.texts.ProblemText.{ProblemText}
 use Rattle.pddl_parser.specs.declared.cursor.Start.{Start}
 use Rattle.pddl_parser.specs.declared.cursor.Start.TheVariants.{Nothing, And, Other}
 use Rattle.pddl_parser.specs.declared.formulas.Terms.{Terms}
@@ -21,7 +16,7 @@ use Rattle.pddl_parser.specs.declared.formulas.Terms.TheVariants.{Names, NamesAn
 use Rattle.pddl_parser.specs.declared.formulas.AtomChange.{AtomChange}
 use Rattle.pddl_parser.specs.declared.formulas.AtomChange.TheVariants.{Added, Deleted}
 use Rattle.pddl_parser.specs.Lexemes.{Lexeme, left, right, name, variable, keyword, dash, equal}
-use Rattle.pddl_parser.specs.Grammar.{word, reserved_heads, added, deleted}
+use Rattle.pddl_parser.specs.Grammar.{word, reserved_heads}
 
 -- a value and the lexemes after it, or the kind of fault and the lexemes from the offending one on
 pub data Read (A : Type 0) : Type 0 where
@@ -93,10 +88,6 @@ literal kind text ts = passing (comes_as kind text ts) tt ts
 abbrev pub any_word : Kind → List Lexeme → Read Word
 any_word kind ts = passing (comes kind ts) (first_word ts) ts
 
--- any word of a kind, without a type
-abbrev pub untyped : Kind → List Lexeme → Read Typed
-untyped kind ts = passing (comes kind ts) (record { word = first_word ts; of = None }) ts
-
 -- a name that is not reserved
 abbrev pub head : List Lexeme → Read Word
 head ts = if comes_reserved ts then stuck Unsupported ts else any_word Name ts
@@ -136,26 +127,12 @@ atom_body terms ts =
 abbrev pub atom : Terms → List Lexeme → Read AtomText
 atom terms ts = in_list (atom_body terms) ts
 
--- ( HEAD VARIABLE* )
-unfoldable pub predicate : List Lexeme → Read PredText
-predicate ts =
-    and_then (mark LeftParen ts) (λ _ ts. and_then (head ts) (λ head ts. and_then (many (untyped Variable) ts) (λ params rest.
-    got (record { head = head; params = params }) rest)))
-
 -- ( define ( KIND NAME )
 unfoldable pub opening : List ℕ → List Lexeme → Read Word
 opening kind ts =
     and_then (mark LeftParen ts) (λ _ ts. and_then (literal Name (codes "define") ts) (λ _ ts. and_then (mark LeftParen ts) (λ _ ts.
     and_then (literal Name kind ts) (λ _ ts. and_then (any_word Name ts) (λ own ts. and_then (mark RightParen ts) (λ _ rest.
     got own rest))))))
-
--- ( KEYWORD
-unfoldable pub section_key : List ℕ → List Lexeme → Read (Unit {0})
-section_key key ts = and_then (mark LeftParen ts) (λ _ ts. literal Keyword key ts)
-
--- ( KEYWORD body
-abbrev pub section : {A : Type 0} → List ℕ → (List Lexeme → Read A) → List Lexeme → Read A
-section key body ts = and_then (section_key key ts) (λ _ ts. body ts)
 
 -- an item and a right parenthesis
 abbrev pub closed_item : {A : Type 0} → (List Lexeme → Read A) → List Lexeme → Read A
@@ -197,39 +174,10 @@ conjuncts body count ts = conjuncts_within body (suc (length ts)) count ts
 unfoldable pub conjunction : {A : Type 0} → (List Lexeme → Read A) → List Lexeme → Read (List A)
 conjunction body ts = and_then (start ts) (λ first rest. after_start body (conjuncts body) 0 first rest)
 
--- KEYWORD body
-abbrev pub part : {A : Type 0} → List ℕ → (List Lexeme → Read A) → List Lexeme → Read A
-part key body ts = and_then (literal Keyword key ts) (λ _ ts. body ts)
-
--- NAME :parameters ( VARIABLE* ) :precondition formula :effect effect
-unfoldable pub action_body : List Lexeme → Read ActionText
-action_body ts =
-    and_then (any_word Name ts) (λ own ts. and_then (part (codes ":parameters") (in_list (many (untyped Variable))) ts) (λ params ts.
-    and_then (part (codes ":precondition") (conjunction (atom_body NamesAndVariables)) ts) (λ pre ts. and_then (part (codes ":effect") (conjunction change_body) ts) (λ changes rest.
-    got (record { name = own; params = params; pre = pre; add = added changes; del = deleted changes }) rest))))
-
--- ( :action NAME :parameters ( VARIABLE* ) :precondition formula :effect effect )
-abbrev pub action : List Lexeme → Read ActionText
-action ts = section (codes ":action") (closed_item action_body) ts
-
 -- nothing is left
 abbrev pub end : List Lexeme → Read (Unit {0})
 end [] = got tt []
 end (t ∷ ts) = stuck Shape (t ∷ ts)
-
--- the text of a domain, with what stands after it left
-unfoldable pub domain : List Lexeme → Read DomainText
-domain ts =
-    and_then (opening (codes "domain") ts) (λ own ts. and_then (section (codes ":predicates") (many predicate) ts) (λ predicates ts. and_then (many action ts) (λ actions rest.
-    got (record { name = own; requirements = []; types = []; constants = []; predicates = predicates; actions = actions }) rest)))
-
--- the text of a problem, with what stands after it left
-unfoldable pub problem : List Lexeme → Read ProblemText
-problem ts =
-    and_then (opening (codes "problem") ts) (λ own ts. and_then (section (codes ":domain") (closed_item (any_word Name)) ts) (λ domain ts.
-    and_then (section (codes ":objects") (many (untyped Name)) ts) (λ objects ts. and_then (section (codes ":init") (many (atom Names)) ts) (λ init ts.
-    and_then (section (codes ":goal") (closed_item (conjunction (atom_body Names))) ts) (λ goal ts. and_then (mark RightParen ts) (λ _ rest.
-    got (record { name = own; domain = domain; requirements = []; objects = objects; init = init; goal = goal }) rest))))))
 
 -- a call answered what is read, and left the rest, or the lexemes from the offending one on; want of memory says nothing
 abbrev pub Reads : {A : Type 0} → Read A → Result A Stop → List Lexeme → Type 0

@@ -1,10 +1,11 @@
 ghost use Rattle.std.specs.Prelude.{◌≡◌, ◌<◌, true, length, drop, IfOk};
-ghost use Rattle.pddl_parser.specs.Lexemes.{lexemes, lower};
+ghost use Rattle.pddl_parser.specs.Lexemes.{lexemes, lower, place_of};
 ghost use Rattle.pddl_lexer.specs.Lexing.{InOrder};
-ghost use Rattle.pddl_parser.specs.Reading.{Reads, is_word, comes, comes_as, comes_reserved, mark, literal, any_word, untyped, start, end, head};
+ghost use Rattle.pddl_parser.specs.Reading.{Reads, is_word, comes, comes_as, comes_reserved, mark, literal, any_word, start, end, head};
+ghost use Rattle.pddl_parser.specs.GroupReading.{IsWhyNoType};
 
 use crate::stop::{Stop, Why};
-use crate::texts::{Typed, Word};
+use crate::texts::Word;
 use flag_rules::Text;
 use pddl_lexer::{Kind, Token};
 use std::alloc::Global;
@@ -72,7 +73,7 @@ impl<'a> Cursor<'a> {
         }
     }
 
-    /// Passes the first token, if there is one. Those that are left can be counted with one more.
+    /// Passes the first token, if there is one.
     pub fn pass(&mut self)
         ensures left { self.new ≡ drop 1 self.old }
         ensures few { length self.new < usize.MAX }
@@ -145,13 +146,27 @@ impl<'a> Cursor<'a> {
         }
     }
 
-    /// Reads any word of a kind, without a type.
-    pub fn untyped(&mut self, alloc: Global, kind: Kind) -> Result<Typed, Stop>
-        requires { is_word kind ≡ true }
-        ensures { Reads (untyped kind self.old) result self.new }
+    /// Where the first token stands, or the end of the text where there is none.
+    pub fn place(&self, end: u32) -> u32
+        ensures { result ≡ place_of end self.now }
     {
-        let word = self.any_word(alloc, kind)?;
-        Ok(Typed { word, of: None })
+        match self.tokens {
+            [first, ..] => first.from,
+            [] => end,
+        }
+    }
+
+    /// Why what comes first is no type, where one is looked for after a dash and a left parenthesis.
+    pub fn why_no_type(&self) -> Why
+        ensures { IsWhyNoType self.now result }
+    {
+        // The tokens themselves are in sight here: none is a gap.
+        let _ = &self.tokens;
+        if self.is_at_word(Kind::Name, b"either") {
+            Why::Unsupported
+        } else {
+            Why::Shape
+        }
     }
 
     /// Reads the end of the text.

@@ -1,9 +1,10 @@
-ghost use Rattle.std.specs.Prelude.{◌≡◌, ◌<◌, length, IfOk};
+ghost use Rattle.std.specs.Prelude.{◌≡◌, IfOk};
 ghost use Rattle.pddl_parser.specs.Grammar.{added, deleted};
-ghost use Rattle.pddl_parser.specs.Reading.{Reads, term, many, atom_body, atom, change_body, closed_item, conjuncts, conjunction};
+ghost use Rattle.pddl_parser.specs.Reading.{Reads, term, many, atom_body, atom, change_body, closed_item, conjunction};
 ghost use Rattle.pddl_parser.specs.declared.formulas.Terms.TheVariants.{NamesAndVariables};
 
-use crate::cursor::{Cursor, Start};
+use crate::cursor::Cursor;
+use crate::item_lists::{ItemReader, conjunction, items};
 use crate::stop::Stop;
 use crate::texts::{AtomText, Word};
 use flag_rules::{List, OutOfMemory};
@@ -24,15 +25,22 @@ pub enum AtomChange {
     Deleted(AtomText),
 }
 
-/// One argument of an atom.
-fn term(alloc: Global, cursor: &mut Cursor<'_>, terms: Terms) -> Result<Word, Stop>
-    ensures { Reads (term terms cursor.old) result cursor.new }
-{
-    match terms {
-        Terms::NamesAndVariables if cursor.is_at(Kind::Variable) => {
-            cursor.any_word(alloc, Kind::Variable)
+/// Reads one argument of an atom.
+#[derive(Drop)]
+struct Argument(Terms);
+
+impl ItemReader for Argument {
+    type Item = Word;
+
+    ghost reading = { λ reader. term reader.0 };
+
+    fn read(&self, alloc: Global, cursor: &mut Cursor<'_>) -> Result<Word, Stop> {
+        match self.0 {
+            Terms::NamesAndVariables if cursor.is_at(Kind::Variable) => {
+                cursor.any_word(alloc, Kind::Variable)
+            }
+            _ => cursor.any_word(alloc, Kind::Name),
         }
-        _ => cursor.any_word(alloc, Kind::Name),
     }
 }
 
@@ -40,12 +48,7 @@ fn term(alloc: Global, cursor: &mut Cursor<'_>, terms: Terms) -> Result<Word, St
 fn arguments(alloc: Global, cursor: &mut Cursor<'_>, terms: Terms) -> Result<List<Word>, Stop>
     ensures { Reads (many (term terms) cursor.old) result cursor.new }
 {
-    let mut words = List::new(alloc);
-    while !cursor.is_at(Kind::RightParen) {
-        words.push(term(alloc, cursor, terms)?)?;
-    }
-    cursor.pass();
-    Ok(words)
+    items(alloc, cursor, &Argument(terms))
 }
 
 /// `HEAD term* )`
@@ -77,92 +80,51 @@ fn closed_atom(alloc: Global, cursor: &mut Cursor<'_>) -> Result<AtomText, Stop>
     Ok(atom)
 }
 
-/// `not atom )` or `HEAD term* )`
-#[tactic(auto, unfolding(crate::specs::Reading::and_then, crate::specs::Reading::change_body))]
-fn change_body(alloc: Global, cursor: &mut Cursor<'_>) -> Result<AtomChange, Stop>
-    ensures { Reads (change_body cursor.old) result cursor.new }
-{
-    if cursor.is_at_word(Kind::Name, b"not") {
-        cursor.pass();
-        return Ok(AtomChange::Deleted(closed_atom(alloc, cursor)?));
+/// Reads an atom after its left parenthesis.
+#[derive(Drop)]
+struct AtomBody(Terms);
+
+impl ItemReader for AtomBody {
+    type Item = AtomText;
+
+    ghost reading = { λ reader. atom_body reader.0 };
+
+    fn read(&self, alloc: Global, cursor: &mut Cursor<'_>) -> Result<AtomText, Stop> {
+        atom_body(alloc, cursor, self.0)
     }
-    Ok(AtomChange::Added(atom_body(alloc, cursor, Terms::NamesAndVariables)?))
 }
 
-/// The atoms of an open conjunction and of those within it, up to its right parenthesis.
-fn open_atoms(alloc: Global, cursor: &mut Cursor<'_>, terms: Terms) -> Result<List<AtomText>, Stop>
-    requires { length cursor.old < usize.MAX }
-    ensures { Reads (conjuncts (atom_body terms) 1 cursor.old) result cursor.new }
-{
-    let mut atoms = List::new(alloc);
-    let mut open: usize = 1;
-    while open > 0 {
-        if cursor.is_at(Kind::RightParen) {
-            cursor.pass();
-            open -= 1;
-        } else {
-            match cursor.start()? {
-                Start::Nothing => {}
-                Start::And => open += 1,
-                Start::Other => atoms.push(atom_body(alloc, cursor, terms)?)?,
-            }
-        }
-    }
-    Ok(atoms)
-}
+/// Reads a change after its left parenthesis: `not atom )` or `HEAD term* )`.
+#[derive(Drop)]
+struct ChangeBody;
 
-/// The changes of an open conjunction and of those within it, up to its right parenthesis.
-fn open_changes(alloc: Global, cursor: &mut Cursor<'_>) -> Result<List<AtomChange>, Stop>
-    requires { length cursor.old < usize.MAX }
-    ensures { Reads (conjuncts change_body 1 cursor.old) result cursor.new }
-{
-    let mut changes = List::new(alloc);
-    let mut open: usize = 1;
-    while open > 0 {
-        if cursor.is_at(Kind::RightParen) {
+impl ItemReader for ChangeBody {
+    type Item = AtomChange;
+
+    ghost reading = { λ _. change_body };
+
+    #[tactic(auto, unfolding(crate::specs::Reading::and_then, crate::specs::Reading::change_body))]
+    fn read(&self, alloc: Global, cursor: &mut Cursor<'_>) -> Result<AtomChange, Stop> {
+        if cursor.is_at_word(Kind::Name, b"not") {
             cursor.pass();
-            open -= 1;
-        } else {
-            match cursor.start()? {
-                Start::Nothing => {}
-                Start::And => open += 1,
-                Start::Other => changes.push(change_body(alloc, cursor)?)?,
-            }
+            return Ok(AtomChange::Deleted(closed_atom(alloc, cursor)?));
         }
+        Ok(AtomChange::Added(atom_body(alloc, cursor, Terms::NamesAndVariables)?))
     }
-    Ok(changes)
 }
 
 /// `( )` or `( and formula* )` or `atom`
-#[tactic(auto, unfolding(crate::specs::Reading::and_then, crate::specs::Reading::conjunction, crate::specs::Reading::conjuncts))]
 pub fn formula(alloc: Global, cursor: &mut Cursor<'_>, terms: Terms) -> Result<List<AtomText>, Stop>
     ensures { Reads (conjunction (atom_body terms) cursor.old) result cursor.new }
 {
-    match cursor.start()? {
-        Start::Nothing => Ok(List::new(alloc)),
-        Start::And => open_atoms(alloc, cursor, terms),
-        Start::Other => {
-            let mut atoms = List::new(alloc);
-            atoms.push(atom_body(alloc, cursor, terms)?)?;
-            Ok(atoms)
-        }
-    }
+    conjunction(alloc, cursor, &AtomBody(terms))
 }
 
 /// `( )` or `( and effect* )` or `atom` or `( not atom )`
-#[tactic(auto, unfolding(crate::specs::Reading::and_then, crate::specs::Reading::conjunction, crate::specs::Reading::conjuncts))]
 pub fn effect(alloc: Global, cursor: &mut Cursor<'_>) -> Result<List<AtomChange>, Stop>
     ensures { Reads (conjunction change_body cursor.old) result cursor.new }
 {
-    match cursor.start()? {
-        Start::Nothing => Ok(List::new(alloc)),
-        Start::And => open_changes(alloc, cursor),
-        Start::Other => {
-            let mut changes = List::new(alloc);
-            changes.push(change_body(alloc, cursor)?)?;
-            Ok(changes)
-        }
-    }
+    conjunction(alloc, cursor, &ChangeBody)
 }
 
 /// The atoms that changes add, and those that they delete, each in order.

@@ -1,70 +1,97 @@
-ghost use Rattle.std.specs.Prelude.{◌≡◌, ◌+◌, ◌≤◌, ℕ, List as Sequence, length, All, IfOk};
-ghost use Rattle.pddl_parser.specs.Replies.{HasDomain, HasProblem, IsDomainReply, IsProblemReply, IsDomainSpelled, IsProblemSpelled, IsActionWithin};
-ghost use Rattle.pddl_parser.specs.declared.texts.DomainText.{DomainText as Domain};
-ghost use Rattle.pddl_parser.specs.declared.texts.ProblemText.{ProblemText as Problem};
+ghost use Rattle.std.specs.Prelude.{◌≡◌, ◌≤◌, List as Sequence, length, IfOk};
+ghost use Rattle.pddl_lexer.specs.Lexing.{InOrder};
+ghost use Rattle.pddl_parser.specs.Lexemes.{Lexeme};
+ghost use Rattle.pddl_parser.specs.Reading.{Read, Reads};
+ghost use Rattle.pddl_parser.specs.Choosing.{all_of};
+ghost use Rattle.pddl_parser.specs.SectionReading as reading;
+ghost use Rattle.pddl_parser.specs.Answering.{ordered_tokens_of, reply_by};
+ghost use Rattle.pddl_parser.specs.Replies.{OrMemory, IsDomainReply, IsProblemReply};
 
 use crate::cursor::Cursor;
+use crate::domain_sections::domain_text;
+use crate::problem_sections::problem_text;
 use crate::refusal::ParseRefusal;
-use crate::rules::{domain_text, problem_text};
+use crate::stop::Stop;
 use crate::texts::{DomainText, ProblemText};
-use pddl_lexer::{LONGEST, misplaced_parenthesis, tokens};
+use flag_rules::List;
+use pddl_lexer::{LONGEST, Token, misplaced_parenthesis, tokens};
 use std::alloc::Global;
 
-/// Reads a domain, in the form `( define ( domain NAME ) ( :predicates pred* ) action* )` of PDDL
-/// 1.2, where a predicate is `( HEAD VARIABLE* )`, and an action `( :action NAME :parameters
-/// ( VARIABLE* ) :precondition formula :effect effect )`. Letters of either case are read alike.
+/// A text that tokens have, up to their end.
+trait WholeText: Drop {
+    ghost reading: { Sequence Lexeme → Read Self };
+
+    /// Reads the text, but not the end after it.
+    fn read(alloc: Global, cursor: &mut Cursor<'_>) -> Result<Self, Stop>
+        ensures { Reads (reading cursor.old) result cursor.new };
+}
+
+impl WholeText for DomainText {
+    ghost reading = { reading.domain };
+
+    fn read(alloc: Global, cursor: &mut Cursor<'_>) -> Result<Self, Stop> {
+        domain_text(alloc, cursor)
+    }
+}
+
+impl WholeText for ProblemText {
+    ghost reading = { reading.problem };
+
+    fn read(alloc: Global, cursor: &mut Cursor<'_>) -> Result<Self, Stop> {
+        problem_text(alloc, cursor)
+    }
+}
+
+/// The tokens of bytes, where each parenthesis is in its place.
+fn ordered_tokens(alloc: Global, bytes: &[u8]) -> Result<List<Token>, ParseRefusal>
+    requires { length bytes.now ≤ LONGEST }
+    ensures exact { OrMemory (λ reply. reply ≡ ordered_tokens_of bytes.now) result }
+    ensures spans { IfOk result (λ tokens. InOrder 0 (length bytes.now) tokens) }
+{
+    let tokens = tokens(alloc, bytes)?;
+    if let Some(misplaced) = misplaced_parenthesis(tokens.as_slice()) {
+        return Err(misplaced.into());
+    }
+    Ok(tokens)
+}
+
+/// Reads a text, and the end after it.
+#[tactic(auto, unfolding(crate::specs::Reading::and_then, crate::specs::Choosing::all_of))]
+fn read_to_end<T: WholeText>(alloc: Global, cursor: &mut Cursor<'_>) -> Result<T, Stop>
+    ensures { Reads (all_of T.reading cursor.old) result cursor.new }
+{
+    let text = T::read(alloc, cursor)?;
+    cursor.end()?;
+    Ok(text)
+}
+
+/// Reads the text of bytes, or tells their refusal.
+fn parse<T: WholeText>(alloc: Global, bytes: &[u8]) -> Result<T, ParseRefusal>
+    requires { length bytes.now ≤ LONGEST }
+    ensures { OrMemory (λ reply. reply ≡ reply_by T.reading bytes.now) result }
+{
+    let tokens = ordered_tokens(alloc, bytes)?;
+    let mut cursor = Cursor::new(bytes, tokens.as_slice());
+    match read_to_end(alloc, &mut cursor) {
+        Ok(text) => Ok(text),
+        Err(stop) => Err(ParseRefusal::at(stop, cursor.place(bytes.len() as u32))),
+    }
+}
+
+/// Reads a domain of PDDL 1.2, `( define ( domain NAME ) section* )`, in letters of either case. Bytes
+/// that have no such text have one refusal.
 pub fn domain(alloc: Global, bytes: &[u8]) -> Result<DomainText, ParseRefusal>
     requires { length bytes.now ≤ LONGEST }
     ensures reply { IsDomainReply bytes.now result }
-    ensures short { IfOk result (λ text. length text.predicates + length text.actions ≤ length bytes.now) }
-    ensures short_actions { IfOk result (λ text. All (IsActionWithin (length bytes.now)) text.actions) }
 {
-    let list = tokens(alloc, bytes)?;
-    let tokens = list.as_slice();
-    if misplaced_parenthesis(tokens).is_some() {
-        return Err(ParseRefusal::Unsupported(0));
-    }
-    let mut cursor = Cursor::new(bytes, tokens);
-    let text = domain_text(alloc, &mut cursor)?;
-    cursor.end()?;
-    Ok(text)
+    parse(alloc, bytes)
 }
 
-/// Reads a problem, in the form `( define ( problem NAME ) ( :domain NAME ) ( :objects NAME* )
-/// ( :init gatom* ) ( :goal gformula ) )` of PDDL 1.2, where an atom is `( HEAD NAME* )`, and a
-/// formula is an atom or a conjunction. Letters of either case are read alike.
+/// Reads a problem of PDDL 1.2, `( define ( problem NAME ) section* )`, in letters of either case.
+/// Bytes that have no such text have one refusal.
 pub fn problem(alloc: Global, bytes: &[u8]) -> Result<ProblemText, ParseRefusal>
     requires { length bytes.now ≤ LONGEST }
     ensures reply { IsProblemReply bytes.now result }
-    ensures short { IfOk result (λ text. length text.objects + length text.init + length text.goal ≤ length bytes.now) }
 {
-    let list = tokens(alloc, bytes)?;
-    let tokens = list.as_slice();
-    if misplaced_parenthesis(tokens).is_some() {
-        return Err(ParseRefusal::Unsupported(0));
-    }
-    let mut cursor = Cursor::new(bytes, tokens);
-    let text = problem_text(alloc, &mut cursor)?;
-    cursor.end()?;
-    Ok(text)
+    parse(alloc, bytes)
 }
-
-/// Bytes are those of one domain at most.
-pub fn one_domain()
-    ensures { (bytes : Sequence ℕ) (d e : Domain) → HasDomain bytes d → HasDomain bytes e → d ≡ e }
-{}
-
-/// Bytes are those of one problem at most.
-pub fn one_problem()
-    ensures { (bytes : Sequence ℕ) (p q : Problem) → HasProblem bytes p → HasProblem bytes q → p ≡ q }
-{}
-
-/// The names of a domain are names in lower case, and its variables such names after a `?`.
-pub fn domain_is_spelled()
-    ensures { (bytes : Sequence ℕ) (d : Domain) → HasDomain bytes d → IsDomainSpelled d }
-{}
-
-/// The names of a problem are names in lower case.
-pub fn problem_is_spelled()
-    ensures { (bytes : Sequence ℕ) (p : Problem) → HasProblem bytes p → IsProblemSpelled p }
-{}

@@ -1,12 +1,11 @@
 ghost use Rattle.std.specs.Prelude.{◌≡◌};
-ghost use Rattle.pddl_parser.specs.Replies.{refusal_of_lexer, refusal_of_stop};
-ghost use Rattle.pddl_parser.specs.declared.refusal.ParseRefusal.TheVariants.{OutOfMemory as NoMemory};
+ghost use Rattle.pddl_parser.specs.Answering.{refusal_of_lexer, refusal_of_misplaced, refusal_of_stop};
 
-use crate::stop::Stop;
-use pddl_lexer::LexRefusal;
+use crate::stop::{Stop, Why};
+use pddl_lexer::{LexRefusal, Misplaced};
 use thiserror::Error;
 
-/// Why bytes have no text, with the place where. For now each fault of a text is `Unsupported(0)`.
+/// Why bytes have no text, with the place where, in bytes from 0.
 #[derive(Clone, Copy, Debug, PartialEq, Eq, Error)]
 pub enum ParseRefusal {
     /// A byte that begins no token.
@@ -21,14 +20,30 @@ pub enum ParseRefusal {
     /// A left parenthesis within too many others.
     #[error("the parenthesis at {0} is nested too deep")]
     TooDeep(u32),
-    /// The first token such that the tokens up to it begin no text of the grammar.
+    /// The first token such that the tokens up to it begin no text of the grammar, or the end of the text where all tokens
+    /// begin a text and are none.
     #[error("the token at {0} does not fit there")]
     Shape(u32),
-    /// Such a token that other readers of PDDL take.
+    /// Such a token that stands for what this reader leaves out: another keyword, a reserved name or `=` in the place of a
+    /// predicate's name, or `either` in the place of a type.
     #[error("the text at {0} is not supported")]
     Unsupported(u32),
+    /// There was not enough memory.
     #[error("out of memory")]
     OutOfMemory,
+}
+
+impl ParseRefusal {
+    /// The refusal of a text whose reading stopped at a place.
+    pub(crate) fn at(stop: Stop, place: u32) -> ParseRefusal
+        ensures { result ≡ refusal_of_stop stop place }
+    {
+        match stop {
+            Stop::Refused(Why::Shape) => ParseRefusal::Shape(place),
+            Stop::Refused(Why::Unsupported) => ParseRefusal::Unsupported(place),
+            Stop::OutOfMemory => ParseRefusal::OutOfMemory,
+        }
+    }
 }
 
 impl From<LexRefusal> for ParseRefusal {
@@ -36,19 +51,20 @@ impl From<LexRefusal> for ParseRefusal {
 
     fn from(refusal: LexRefusal) -> Self {
         match refusal {
-            LexRefusal::Byte(_) => ParseRefusal::Unsupported(0),
+            LexRefusal::Byte(place) => ParseRefusal::Byte(place),
             LexRefusal::OutOfMemory => ParseRefusal::OutOfMemory,
         }
     }
 }
 
-impl From<Stop> for ParseRefusal {
-    ghost from_gives = { λ stop made. made ≡ refusal_of_stop stop };
+impl From<Misplaced> for ParseRefusal {
+    ghost from_gives = { λ misplaced made. made ≡ refusal_of_misplaced misplaced };
 
-    fn from(stop: Stop) -> Self {
-        match stop {
-            Stop::Refused(_) => ParseRefusal::Unsupported(0),
-            Stop::OutOfMemory => ParseRefusal::OutOfMemory,
+    fn from(misplaced: Misplaced) -> Self {
+        match misplaced {
+            Misplaced::Unopened(place) => ParseRefusal::Unopened(place),
+            Misplaced::TooDeep(place) => ParseRefusal::TooDeep(place),
+            Misplaced::Unclosed(place) => ParseRefusal::Unclosed(place),
         }
     }
 }

@@ -1,6 +1,6 @@
 use flag_rules::{List, Text};
 
-/// A word of a text in lower case, with the place of its first byte. A variable keeps its `?`.
+/// A word of a text in lower case, with the place of its first byte. A variable keeps its `?`, a keyword its `:`.
 #[derive(Debug, Drop)]
 pub struct Word {
     pub text: Text,

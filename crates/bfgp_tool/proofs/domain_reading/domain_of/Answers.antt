@@ -1,11 +1,10 @@
 use Rattle.std.proofs.Common.{refl, Err}
 use Rattle.std.proofs.lemmas.Result.{err_from_is_err_and}
-use Rattle.bfgp_tool.specs.Faults.{parsing_fault, numbering_fault}
+use Rattle.bfgp_tool.specs.Faults.{parsing_fault, task_fault}
 use Rattle.pddl_parser.specs.Replies.{IsDomainReply}
-use Rattle.bfgp_tool.specs.Numbering.{IsTaskReply}
+use Rattle.pddl_task.specs.Replies.{IsTaskReply}
 use Rattle.bfgp_tool.specs.Steps.{or_tell, goes_on}
 use Rattle.bfgp_tool.proofs.Chain.{then_next, then_end}
-use Rattle.bfgp_tool.proofs.Validity.{few_predicates}
 use Rattle.bfgp_tool.proofs.Sequels.{after_domain_text, after_task}
 use Rattle.bfgp_tool.proofs.domain_reading.domain_of.Goals as goal
 
@@ -18,10 +17,10 @@ pub returns-in_err-task-clause-due : goal.returns-in_err-task-clause-due
 returns-in_err-task-clause-due c =
     let p = err_from_is_err_and c.from_residual-in_err-task.result c.from_residual-in_err-task.ensures.1 in
     rw (p.1, p.2) (then_next (or_tell c.args.name.now parsing_fault (IsDomainReply c.args.bytes.now)) (after_domain_text c.args.name.now) c.in_ok-text.text (Err c.in_err-task.field-0.0) c.in_ok-text.ensures.due
-    (then_end (or_tell c.args.name.now numbering_fault (IsTaskReply c.in_ok-text.text)) (after_task c.in_ok-text.text) c.in_err-task.field-0.0 c.in_err-task.ensures.due))
+    (then_end (or_tell c.args.name.now task_fault (IsTaskReply c.in_ok-text.text)) (after_task c.in_ok-text.text) c.in_err-task.field-0.0 c.in_err-task.ensures.due))
 
 pub returns-clause-due : goal.returns-clause-due
 returns-clause-due c = goes_on c.in_ok-text.ensures.due (goes_on c.in_ok-task.ensures.due refl)
 
-pub returns-clause-numbered : goal.returns-clause-numbered
-returns-clause-numbered c = record { numbered = c.in_ok-task.ensures.due; few = few_predicates c.in_ok-text.text c.in_ok-text.ensures.short }
+pub returns-clause-read : goal.returns-clause-read
+returns-clause-read c = record { text = c.in_ok-text.ensures.read; task = c.in_ok-task.ensures.due }

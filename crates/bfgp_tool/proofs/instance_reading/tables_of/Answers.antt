@@ -1,4 +1,4 @@
-use Rattle.std.proofs.Common.{arith, rules, Ok, Err}
+use Rattle.std.proofs.Common.{[], refl, arith, rules, Ok, Err}
 use Rattle.std.proofs.lemmas.Result.{err_from_is_err_and}
 use Rattle.std.proofs.lemmas.List.{length_push}
 use Rattle.std.proofs.lemmas.List.Elements.{All-push}
@@ -6,9 +6,18 @@ use Rattle.ground_state.specs.Action.{IsTableOf}
 use Rattle.bfgp_outside.specs.Shelf.{Files}
 use Rattle.bfgp_tool.specs.Steps.{Gives}
 use Rattle.bfgp_tool.specs.Due.{tables_due}
-use Rattle.bfgp_tool.proofs.Chain.{knowing}
-use Rattle.bfgp_tool.proofs.Tables.{Continues, finished, known_file, known_table, known_more, at_bytes}
+use Rattle.bfgp_tool.proofs.Lists.{no_items}
+use Rattle.bfgp_tool.proofs.Chain.{knowing, knowing_always}
+use Rattle.bfgp_tool.proofs.Tables.{Continues, begins, finished, known_file, known_table, known_more, at_bytes}
 use Rattle.bfgp_tool.proofs.instance_reading.tables_of.Goals as goal
+
+pub loop-name-init : goal.loop-name-init
+loop-name-init g c = record {
+  goes_on = search rules;
+  continues = rw c.new-tables.ensures (knowing_always (g.S.Shelf.files c.args.shelf.now) (λ (files : Files). Continues files c.args.domain.now c.args.names.now 0 []) (λ files. begins files c.args.domain.now c.args.names.now));
+  fit = rw c.new-tables.ensures (no_items (IsTableOf c.args.domain.now.task));
+  count = rw c.new-tables.ensures refl;
+}
 
 pub returns-in_err-bytes-clause-due : goal.returns-in_err-bytes-clause-due
 returns-in_err-bytes-clause-due g c =

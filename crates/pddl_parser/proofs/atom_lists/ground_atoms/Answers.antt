@@ -1,0 +1,6 @@
+use Rattle.pddl_parser.specs.declared.formulas.Terms.TheVariants.{Names}
+use Rattle.pddl_parser.proofs.Exact.{atom_shrinks}
+use Rattle.pddl_parser.proofs.atom_lists.ground_atoms.Goals as goal
+
+pub items-requires : goal.items-requires
+items-requires c = atom_shrinks Names

@@ -1,0 +1,18 @@
+use Rattle.std.proofs.Common.{sym, ◌∙◌}
+use Rattle.std.proofs.lemmas.Result.{err_from_is_err_and}
+use Rattle.pddl_parser.proofs.SectionRounds.{sections_shrink, sections-next, sections-done, sections-err}
+use Rattle.pddl_parser.proofs.domain_sections.sections_of.Goals as goal
+
+pub returns-in_err-seen : goal.returns-in_err-seen
+returns-in_err-seen c =
+    let p = err_from_is_err_and c.from_residual.result c.from_residual.ensures.1 in
+    rw (p.1, p.2) (sections-err _ _ _ _ _ c.loop-alloc.invariant (sym c.is_at.ensures ∙ c.loop-alloc-test.true) c.in_err-seen.ensures)
+
+pub loop-alloc-smaller : goal.loop-alloc-smaller
+loop-alloc-smaller c = sections_shrink _ _ _ _ c.in_ok-seen.ensures
+
+pub loop-alloc-preserved : goal.loop-alloc-preserved
+loop-alloc-preserved c = sections-next _ _ _ _ _ c.loop-alloc.invariant (sym c.is_at.ensures ∙ c.loop-alloc-test.true) c.in_ok-seen.ensures
+
+pub returns : goal.returns
+returns c = rw c.pass.ensures.left (sections-done _ _ _ c.loop-alloc.invariant (sym c.is_at.ensures ∙ c.loop-alloc-test.false))

@@ -1,0 +1,5 @@
+use Rattle.pddl_task.proofs.OneAnswer.{one-instance}
+use Rattle.pddl_task.proofs.laws.one_instance_reply.Goals as goal
+
+pub returns : goal.returns
+returns c = one-instance

@@ -1,0 +1,7 @@
+pub mod Names
+pub mod Types
+pub mod Faults
+pub mod Parts
+pub mod Replies
+pub mod Arities
+pub mod Workings
