@@ -1,0 +1,14 @@
+pub mod Spaced
+pub mod TypedCount
+pub mod Tokens
+pub mod Lines
+pub mod Nesting
+pub mod NestedTexts
+pub mod Shows
+pub mod TypedShows
+pub mod ActionShows
+pub mod SectionShows
+pub mod DomainShows
+pub mod ProblemShows
+pub mod Printed
+pub mod ReadBack

@@ -1,0 +1,7 @@
+use Rattle.std.proofs.Common.{◌≡◌, ◌++◌, drop}
+use Rattle.std.specs.List.{flat_map}
+use Rattle.pddl_printer.specs.Printing.{spaced, deleted_words}
+use Rattle.pddl_printer.proofs.formulas.deleted_atoms.Given as goal
+
+abbrev pub invariant-loop-each : goal.invariant-loop-each
+invariant-loop-each l = l.out ++ spaced (flat_map deleted_words (drop l.each-index l.each-items)) ≡ l.initial.out ++ spaced (flat_map deleted_words l.each-items)

@@ -1,0 +1,120 @@
+ghost use Rattle.std.specs.Prelude.{◌≤◌, length};
+ghost use Rattle.pddl_lexer.specs.declared.lexer.TheConstants.{LONGEST};
+
+use crate::words::typed_list;
+use crate::{print_domain, print_problem};
+use flag_rules::{List, OutOfMemory, Text};
+use pddl_parser::{LONGEST, ParseRefusal, Typed, Word, domain, problem};
+use std::alloc::Global;
+
+fn domain_reprinted(alloc: Global, bytes: &[u8]) -> Result<Vec<u8>, ParseRefusal>
+    requires { length bytes.now ≤ LONGEST }
+{
+    let text = domain(alloc, bytes)?;
+    match print_domain(alloc, &text) {
+        Ok(printed) => Ok(printed),
+        Err(OutOfMemory) => Err(ParseRefusal::OutOfMemory),
+    }
+}
+
+fn problem_reprinted(alloc: Global, bytes: &[u8]) -> Result<Vec<u8>, ParseRefusal>
+    requires { length bytes.now ≤ LONGEST }
+{
+    let text = problem(alloc, bytes)?;
+    match print_problem(alloc, &text) {
+        Ok(printed) => Ok(printed),
+        Err(OutOfMemory) => Err(ParseRefusal::OutOfMemory),
+    }
+}
+
+#[test]
+fn prints_a_domain_with_every_section(rt: HostRuntime) -> Result<(), ParseRefusal> {
+    let printed = domain_reprinted(
+        rt.alloc(),
+        b"(define (domain Lights) (:predicates (lit ?x))\n (:action light :effect (lit ?x) :parameters (?x)))",
+    )?;
+    assert_eq!(rt;
+        printed.as_slice(),
+        b"( define ( domain lights ) ( :requirements ) ( :types ) ( :constants ) ( :predicates ( lit ?x ) ) ( :action light :parameters ( ?x ) :precondition ( and ) :effect ( and ( lit ?x ) ) ) )\n".as_slice()
+    );
+    Ok(())
+}
+
+#[test]
+fn prints_a_problem_with_every_section(rt: HostRuntime) -> Result<(), ParseRefusal> {
+    let printed = problem_reprinted(
+        rt.alloc(),
+        b"(define (problem evening) (:requirements :typing) (:goal (lit lamp)) (:objects lamp desk - light hall) (:domain lights))",
+    )?;
+    assert_eq!(rt;
+        printed.as_slice(),
+        b"( define ( problem evening ) ( :domain lights ) ( :requirements :typing ) ( :objects lamp - light desk - light hall ) ( :init ) ( :goal ( and ( lit lamp ) ) ) )\n".as_slice()
+    );
+    Ok(())
+}
+
+fn word(alloc: Global, text: &[u8]) -> Result<Word, OutOfMemory> {
+    Ok(Word {
+        text: Text::of(alloc, text)?,
+        at: 0,
+    })
+}
+
+#[test]
+fn gives_a_word_the_type_object_before_a_typed_one(rt: HostRuntime) -> Result<(), OutOfMemory> {
+    let alloc = rt.alloc();
+    let mut names = List::new(alloc);
+    names.push(Typed {
+        word: word(alloc, b"door")?,
+        of: None,
+    })?;
+    names.push(Typed {
+        word: word(alloc, b"lamp")?,
+        of: Some(word(alloc, b"light")?),
+    })?;
+    names.push(Typed {
+        word: word(alloc, b"hall")?,
+        of: None,
+    })?;
+    let mut out = Text::new(alloc);
+    typed_list(&mut out, &names)?;
+    assert_eq!(rt;
+        out.as_slice(),
+        b" door - object lamp - light hall".as_slice()
+    );
+    Ok(())
+}
+
+const CORRIDOR: &[u8] =
+    b"; A walker stands at one of the cells in a row, and moves from a cell to the next.
+(define (domain corridor)
+  (:predicates (at ?c) (next ?x ?y))
+  (:action move :parameters (?x ?y)
+    :precondition (and (at ?x) (next ?x ?y))
+    :effect (and (not (at ?x)) (at ?y))))";
+
+const GRIPPER: &[u8] = b"; A robot with two grippers carries balls from one room to another.
+(define (domain gripper-strips)
+  (:predicates (room ?r) (ball ?b) (gripper ?g) (at-robby ?r)
+               (at ?b ?r) (free ?g) (carry ?o ?g))
+  (:action move :parameters (?from ?to)
+    :precondition (and (room ?from) (room ?to) (at-robby ?from))
+    :effect (and (at-robby ?to) (not (at-robby ?from))))
+  (:action pick :parameters (?obj ?room ?gripper)
+    :precondition (and (ball ?obj) (room ?room) (gripper ?gripper)
+                       (at ?obj ?room) (at-robby ?room) (free ?gripper))
+    :effect (and (carry ?obj ?gripper) (not (at ?obj ?room)) (not (free ?gripper))))
+  (:action drop :parameters (?obj ?room ?gripper)
+    :precondition (and (ball ?obj) (room ?room) (gripper ?gripper)
+                       (carry ?obj ?gripper) (at-robby ?room))
+    :effect (and (at ?obj ?room) (free ?gripper) (not (carry ?obj ?gripper)))))";
+
+#[test]
+fn prints_what_was_printed_as_it_is(rt: HostRuntime) -> Result<(), ParseRefusal> {
+    for text in [CORRIDOR, GRIPPER] {
+        let once = domain_reprinted(rt.alloc(), text)?;
+        let twice = domain_reprinted(rt.alloc(), &once[..once.len().min(LONGEST)])?;
+        assert_eq!(rt; twice.as_slice(), once.as_slice());
+    }
+    Ok(())
+}
