@@ -1,0 +1,6 @@
+(define (problem strips-gripper-2) (:domain gripper-strips)
+  (:objects rooma roomb ball2 ball1 left right)
+  (:init (room rooma) (room roomb) (ball ball2) (ball ball1)
+         (at-robby rooma) (free left) (free right)
+         (at ball2 rooma) (at ball1 rooma) (gripper left) (gripper right))
+  (:goal (and (at ball2 roomb) (at ball1 roomb))))
