@@ -10,7 +10,6 @@ pub mod SameNodes
 pub mod Numbered
 pub mod SameSizes
 pub mod SameAnswers
-pub mod Following
 pub mod Ends
 pub mod VerdictsFrom
 pub mod PlacesInLists

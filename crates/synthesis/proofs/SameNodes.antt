@@ -9,32 +9,20 @@ use Rattle.program_model.specs.Program.{Program, IsPartial}
 use Rattle.program_model.specs.Run.{Config, at}
 use Rattle.program_model.specs.Standing.{IsStanding}
 use Rattle.program_model.specs.Verdict.{Stood, IsStood, AreStood, AreStoodFrom, is_refuting, verdict}
-use Rattle.program_model.proofs.Standings.{same_standing}
+use Rattle.interpreter.proofs.SameOutcomes.{same_stood}
 use Rattle.synthesis.specs.Search.{Setting, judged, Node, IsJudged, IsRoot, IsChild, AreChildren}
-
-stood_by : (x y : Stood) → x.instance ≡ y.instance → x.steps ≡ y.steps → x.missing ≡ y.missing → x.standing ≡ y.standing → x ≡ y
-stood_by x y instance steps missing standing =
-    let same : ◌≡◌ {A = Stood} (record { instance = x.instance; steps = x.steps; missing = x.missing; standing = x.standing }) y = rw (instance, steps, missing, standing) refl in same
 
 node_by : (x y : Node) → x.number ≡ y.number → x.program ≡ y.program → x.state ≡ y.state → x.key ≡ y.key → x ≡ y
 node_by x y number program state key =
     let same : ◌≡◌ {A = Node} (record { number = x.number; program = x.program; state = x.state; key = x.key }) y = rw (number, program, state, key) refl in same
 
 module _ {C : Type 0} (m : Semantics C) (ops : ℕ) (q : Program) (limit : ℕ) (partial : IsPartial ops q) where
-  same_stood : (x y : Stood) → x.instance ≡ y.instance → IsStood m q limit x → IsStood m q limit y → x ≡ y
-  same_stood x y e h k =
-      let stands : IsStanding m q x.instance limit y.steps y.standing = rw e k.stands in
-      let same = same_standing m ops q x.instance partial limit x.steps y.steps x.standing y.standing h.stands stands in
-      let config : h.config ≡ k.config = same_Some h.config k.config (sym h.comes ∙ ap (at m q x.instance) same.0 ∙ ap (λ t. at m q t y.steps) e ∙ k.comes) in
-      let missing : x.missing ≡ y.missing = sym h.lacks ∙ ap (λ t. m.missing t h.config.value) e ∙ ap (λ (c : Config C). m.missing y.instance c.value) config ∙ k.lacks in
-      stood_by x y e same.0 missing same.1
-
   pub same_runs : (xs ys : List Stood) (t : ℕ) → AreStoodFrom m q limit t xs → AreStoodFrom m q limit t ys → xs ≡ ys
   same_runs [] [] t h k = refl
   same_runs [] (y ∷ ys) t h k = let within = k.1.within in let here = k.0 in absurd (omega arith)
   same_runs (x ∷ xs) [] t h k = let within = h.1.within in let here = h.0 in absurd (omega arith)
   same_runs (x ∷ xs) (y ∷ ys) t h k =
-      let same = same_stood x y (h.0 ∙ sym k.0) h.1 k.1 in
+      let same = same_stood m ops q limit partial x y (h.0 ∙ sym k.0) h.1 k.1 in
       let standing : y.standing ≡ x.standing = ap (λ (z : Stood). z.standing) (sym same) in
       let rest : xs ≡ ys = elim (cases_Bool (is_refuting x.standing)) [
         | inl refutes ↦ MatchBool-at_true _ _ refutes h.2 ∙ sym (MatchBool-at_true _ _ (ap is_refuting standing ∙ refutes) k.2)

@@ -3,25 +3,25 @@ use Rattle.std.proofs.Common.{◌≡◌, ℕ, ◌+◌, true, false, [], ◌∷�
 use Rattle.program_model.specs.Semantics.{Semantics}
 use Rattle.program_model.specs.Program.{Program}
 use Rattle.program_model.specs.Verdict.{IsStood, is_refuting, verdict}
-use Rattle.synthesis.specs.declared.standing.RunOutcome.{RunOutcome}
+use Rattle.interpreter.specs.declared.standing.Whole.{Whole}
+use Rattle.interpreter.specs.Standings.{standing_of, stood_of}
 use Rattle.synthesis.specs.declared.standing.Verdict.{Verdict}
 use Rattle.synthesis.specs.declared.standing.Verdict.TheVariants as verdicts
-use Rattle.synthesis.specs.Standings.{standing_of, stood_of, verdict_of}
-use Rattle.synthesis.specs.Progress.{IsVerdictFrom}
+use Rattle.synthesis.specs.Standings.{verdict_of, IsVerdictFrom}
 
-module _ {C : Type 0} (m : Semantics C) (q : Program) (limit t : ℕ) (outcome : RunOutcome) (stood : IsStood m q limit (stood_of outcome)) (instance : outcome.instance ≡ t) where
+module _ {C : Type 0} (m : Semantics C) (q : Program) (limit t : ℕ) (run : Whole) (stood : IsStood m q limit (stood_of t run)) where
   -- the run on the first of them refutes
-  pub refused_from : is_refuting (standing_of outcome.stand) ≡ true → IsVerdictFrom m q limit t (verdicts.Refused outcome)
+  pub refused_from : is_refuting (standing_of run.stand) ≡ true → IsVerdictFrom m q limit t (verdicts.Refused (record { instance = t; run = run }))
   refused_from refuting = record {
-    runs = stood_of outcome ∷ [];
-    stood = (instance, stood, rw refuting refl);
+    runs = stood_of t run ∷ [];
+    stood = (refl, stood, rw refuting refl);
     is = rw refuting refl;
   }
 
   -- it does not
-  pub joined_from : is_refuting (standing_of outcome.stand) ≡ false → (later : Verdict) (from : IsVerdictFrom m q limit (t + 1) later) (both : Verdict) → verdict_of both ≡ verdict (stood_of outcome ∷ from.runs) → IsVerdictFrom m q limit t both
+  pub joined_from : is_refuting (standing_of run.stand) ≡ false → (later : Verdict) (from : IsVerdictFrom m q limit (t + 1) later) (both : Verdict) → verdict_of both ≡ verdict (stood_of t run ∷ from.runs) → IsVerdictFrom m q limit t both
   joined_from not_refuting later from both is = record {
-    runs = stood_of outcome ∷ from.runs;
-    stood = (instance, stood, rw not_refuting from.stood);
+    runs = stood_of t run ∷ from.runs;
+    stood = (refl, stood, rw not_refuting from.stood);
     is = is;
   }

@@ -1,6 +1,5 @@
 pub mod Covers
 pub mod Standings
-pub mod Progress
 pub mod Search
 pub mod Answers
 pub mod Accepted

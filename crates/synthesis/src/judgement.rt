@@ -2,22 +2,22 @@ ghost use Rattle.std.specs.Prelude.{◌≡◌, ◌≤◌, List as Sequence, ◌�
 ghost use Rattle.program_model.specs.Semantics.{Semantics};
 ghost use Rattle.program_model.specs.Program.{IsPartial};
 ghost use Rattle.program_model.specs.Verdict.{Stood, AreStood, is_refuting, solved, verdict as verdict_on};
-ghost use Rattle.synthesis.specs.Standings.{standing_of, stood_of, verdict_of, IsVerdictOn};
-ghost use Rattle.synthesis.specs.Progress.{IsVerdictFrom};
+ghost use Rattle.interpreter.specs.Standings.{standing_of};
+ghost use Rattle.synthesis.specs.Standings.{stood_of, verdict_of, IsVerdictOn, IsVerdictFrom};
 ghost use Rattle.synthesis.specs.Answers.{AreEndsFrom};
 
-use crate::plain_run::{MAX_RUN, run_from_start};
-use crate::standing::{RunOutcome, Stand, Verdict};
+use crate::standing::{RunOutcome, Verdict};
 use flag_rules::{List, OutOfMemory};
+use interpreter::{MAX_RUN, Stand, from_start};
 use program_model::{Machine, Partial};
 use std::alloc::Global;
 
 impl RunOutcome {
     /// Whether the run refutes its program.
     fn refutes(&self) -> bool
-        ensures { result ≡ is_refuting (standing_of self.now.stand) }
+        ensures { result ≡ is_refuting (standing_of self.now.run.stand) }
     {
-        matches!(self.stand, Stand::Unmet | Stand::Loops { .. })
+        matches!(self.run.stand, Stand::Unmet | Stand::Loops { .. })
     }
 
     /// The verdict of the run and of the runs on later instances, together.
@@ -25,7 +25,7 @@ impl RunOutcome {
         ensures { (others : Sequence Stood) → verdict_of later ≡ verdict_on others →
             verdict_of result ≡ verdict_on (stood_of self ∷ others) }
     {
-        match self.stand {
+        match self.run.stand {
             Stand::Ended => later,
             Stand::Unmet | Stand::Loops { .. } => Verdict::Refused(self),
             Stand::Waits { line } => match later {
@@ -75,7 +75,11 @@ fn judge_from<M: Machine>(
     if t == machine.instances() {
         return Ok(Verdict::Solved);
     }
-    let outcome = run_from_start(alloc, machine, partial, t, limit, meter)?;
+    let whole = from_start(alloc, machine, partial, t, limit, meter)?;
+    let outcome = RunOutcome {
+        instance: t,
+        run: whole,
+    };
     if outcome.refutes() {
         return Ok(Verdict::Refused(outcome));
     }
@@ -99,8 +103,8 @@ pub(crate) fn ends_of<M: Machine>(
 {
     let mut ends = List::new(alloc);
     for t in 0..machine.instances() {
-        let outcome = run_from_start(alloc, machine, partial, t, limit, meter)?;
-        ends.push(outcome.steps)?;
+        let whole = from_start(alloc, machine, partial, t, limit, meter)?;
+        ends.push(whole.steps)?;
     }
     Ok(ends)
 }

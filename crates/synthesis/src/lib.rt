@@ -8,7 +8,6 @@ mod judgement;
 mod laws;
 mod limits;
 mod nodes;
-mod plain_run;
 mod searcher;
 mod size;
 mod sizes;

@@ -1,13 +1,15 @@
 ghost use Rattle.std.specs.Prelude.{◌≡◌, IfOk, map};
-ghost use Rattle.synthesis.specs.Standings.{standing_of, verdict_of};
+ghost use Rattle.interpreter.specs.Standings.{standing_of};
+ghost use Rattle.synthesis.specs.Standings.{verdict_of};
 ghost use Rattle.synthesis.specs.Search.{judged, mark_of, refusal_mark};
 ghost use Rattle.synthesis.specs.Answers.{tree_of};
 ghost use Rattle.synthesis.specs.declared.nodes.Entry.{Entry};
 ghost use Rattle.synthesis.specs.Nodes.{state_of, node_of};
 
-use crate::standing::{RunOutcome, Stand, Verdict};
+use crate::standing::{RunOutcome, Verdict};
 use crate::{Mark, Tree};
 use flag_rules::{List, OutOfMemory};
+use interpreter::Stand;
 use program_model::Partial;
 use std::alloc::Global;
 
@@ -32,14 +34,14 @@ pub(crate) struct Entry {
 impl RunOutcome {
     /// The mark of a node that this run decides.
     fn mark(&self) -> Mark
-        ensures { result ≡ refusal_mark self.now.instance self.now.steps (standing_of self.now.stand) }
+        ensures { result ≡ refusal_mark self.now.instance self.now.run.steps (standing_of self.now.run.stand) }
     {
         let t = self.instance;
-        match self.stand {
+        match self.run.stand {
             Stand::Ended => Mark::Solved,
             Stand::Unmet => Mark::Unmet {
                 t,
-                steps: self.steps,
+                steps: self.run.steps,
             },
             Stand::Waits { .. } => Mark::Waiting,
             Stand::Loops { from, to } => Mark::Loops { t, from, to },

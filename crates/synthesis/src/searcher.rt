@@ -1,7 +1,7 @@
 ghost use Rattle.std.specs.Prelude.{◌≡◌, ◌<◌, ◌≤◌, ◌^◌, [], length, map, IfOk, vec_len};
 ghost use Rattle.program_model.specs.Alphabet.{alphabet};
 ghost use Rattle.program_model.specs.Program.{IsPartial, IsOpen, IsInstr};
-ghost use Rattle.synthesis.specs.declared.plain_run.TheConstants.{MAX_RUN};
+ghost use Rattle.interpreter.specs.declared.plain_run.TheConstants.{MAX_RUN};
 ghost use Rattle.synthesis.specs.Search.{plain, IsJudged, IsChild, AreChildren};
 ghost use Rattle.synthesis.specs.Nodes.{node_of, nodes_of, IsSound, AreSound};
 

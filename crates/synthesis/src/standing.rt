@@ -1,25 +1,10 @@
-/// Where a run stands, once it stands.
-#[derive(Clone, Copy, Debug, PartialEq, Eq, Drop)]
-pub(crate) enum Stand {
-    /// It ended with the goal met.
-    Ended,
-    /// It ended with an atom of the goal missing.
-    Unmet,
-    /// It stands on an undefined line.
-    Waits { line: u8 },
-    /// It came to one configuration twice, after these numbers of steps.
-    Loops { from: u64, to: u64 },
-    /// It made as many steps as the limit allows.
-    AtLimit,
-}
+use interpreter::Whole;
 
-/// The outcome of a run: its instance, the steps after which it stands, and how many atoms of the goal are missing there.
+/// The outcome of a run: its instance, and the whole run on it.
 #[derive(Clone, Copy, Debug, PartialEq, Eq, Drop)]
 pub(crate) struct RunOutcome {
     pub instance: u8,
-    pub steps: u64,
-    pub missing: u32,
-    pub stand: Stand,
+    pub run: Whole,
 }
 
 /// The verdict on a partial program, by where its runs stand.

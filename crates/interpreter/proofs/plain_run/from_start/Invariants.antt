@@ -1,7 +1,7 @@
 use Rattle.std.proofs.Common.{◌≡◌, ◌-◌, ◌≤◌}
 use Rattle.program_model.specs.Counts.{raised, operations}
-use Rattle.synthesis.specs.Progress.{Follows}
-use Rattle.synthesis.proofs.plain_run.run_from_start.Given as goal
+use Rattle.interpreter.specs.Progress.{Follows}
+use Rattle.interpreter.proofs.plain_run.from_start.Given as goal
 
 abbrev pub invariant-loop-stand : goal.invariant-loop-stand
 invariant-loop-stand g l = record {

@@ -1,11 +1,11 @@
 use Rattle.std.proofs.Common.{refl, arith}
-use Rattle.synthesis.specs.Progress.{config_of}
-use Rattle.synthesis.proofs.Following.{counted_on}
-use Rattle.synthesis.proofs.plain_run.run_from_start.Goals as goal
+use Rattle.interpreter.specs.Progress.{config_of}
+use Rattle.interpreter.proofs.Following.{counted_on}
+use Rattle.interpreter.proofs.plain_run.from_start.Goals as goal
 
 pub returns-in-Some-clause-stood : goal.returns-in-Some-clause-stood
 returns-in-Some-clause-stood g c =
-    rw c.outcome.ensures (record {
+    rw c.whole.ensures (record {
       within = c.requires.instance;
       config = config_of c.advance.new.self.here;
       comes = c.advance.ensures.follows.here;

@@ -14,12 +14,12 @@ use Rattle.program_model.specs.Standing.{IsMark, IsNoticeable, IsNoticed, Standi
 use Rattle.program_model.specs.Counts.{raised, op_here, operations}
 use Rattle.program_model.proofs.Alphabets.{contains_op, contains_jump, no_inner_end}
 use Rattle.program_model.proofs.Runs.{open_stops, last_stops, no_later}
-use Rattle.synthesis.specs.declared.standing.Stand.{Stand}
-use Rattle.synthesis.specs.declared.standing.Stand.TheVariants as stands
-use Rattle.synthesis.specs.Standings.{standing_of}
-use Rattle.synthesis.specs.declared.plain_run.Configuration.{Configuration}
-use Rattle.synthesis.specs.declared.plain_run.Running.{Running}
-use Rattle.synthesis.specs.Progress.{config_of, Follows, IsRepeated, with_mark, GoesOn}
+use Rattle.interpreter.specs.declared.standing.Stand.{Stand}
+use Rattle.interpreter.specs.declared.standing.Stand.TheVariants as stands
+use Rattle.interpreter.specs.Standings.{standing_of}
+use Rattle.interpreter.specs.declared.plain_run.Configuration.{Configuration}
+use Rattle.interpreter.specs.declared.plain_run.Running.{Running}
+use Rattle.interpreter.specs.Progress.{config_of, Follows, IsRepeated, with_mark, GoesOn}
 
 -- of two marked steps, the greater is more than twice the lesser
 marks_apart : (a b : ℕ) → IsMark a → IsMark b → a < b → 2 * a + 1 ≤ b

@@ -1,5 +1,5 @@
-use Rattle.synthesis.proofs.Following.{op_is_there, follows_on}
-use Rattle.synthesis.proofs.plain_run.Running.advance.Goals as goal
+use Rattle.interpreter.proofs.Following.{op_is_there, follows_on}
+use Rattle.interpreter.proofs.plain_run.Running.advance.Goals as goal
 
 pub step-requires-clause-op : goal.step-requires-clause-op
 step-requires-clause-op g c =

@@ -1,18 +1,16 @@
--- What is held on the way: of a program's run before it stands, and of its verdict on some of the instances.
-use Rattle.std.specs.Prelude.{◌≡◌, ℕ, ◌+◌, ◌-◌, ◌*◌, ◌==◌, if◌then◌else◌, ◌<◌, ◌≤◌, List, length, Option, Some, None}
+-- What is held on the way: of a program's run before it stands.
+use Rattle.std.specs.Prelude.{◌≡◌, ℕ, ◌+◌, ◌-◌, ◌*◌, ◌==◌, if◌then◌else◌, ◌<◌, ◌≤◌, length, Option, Some, None}
 use Rattle.program_model.specs.declared.instr.Instr.{Instr}
 use Rattle.program_model.specs.Semantics.{Semantics}
 use Rattle.program_model.specs.Program.{Program, line_at}
 use Rattle.program_model.specs.Run.{Config, at}
 use Rattle.program_model.specs.Standing.{IsMark, IsNoticeable, IsStanding}
-use Rattle.program_model.specs.Verdict.{Stood, AreStoodFrom, verdict}
-use Rattle.synthesis.specs.declared.standing.Stand.{Stand}
-use Rattle.synthesis.specs.declared.standing.Verdict.{Verdict}
-use Rattle.synthesis.specs.declared.plain_run.Configuration.{Configuration}
-use Rattle.synthesis.specs.declared.plain_run.Running.{Running}
-use Rattle.synthesis.specs.declared.plain_run.Turn.{Turn}
-use Rattle.synthesis.specs.declared.plain_run.Turn.TheVariants as turns
-use Rattle.synthesis.specs.Standings.{standing_of, verdict_of}
+use Rattle.interpreter.specs.declared.standing.Stand.{Stand}
+use Rattle.interpreter.specs.declared.plain_run.Configuration.{Configuration}
+use Rattle.interpreter.specs.declared.plain_run.Running.{Running}
+use Rattle.interpreter.specs.declared.plain_run.Turn.{Turn}
+use Rattle.interpreter.specs.declared.plain_run.Turn.TheVariants as turns
+use Rattle.interpreter.specs.Standings.{standing_of}
 
 -- the configuration that the code holds
 abbrev pub config_of : {C : Type 0} → Configuration C → Config C
@@ -54,9 +52,3 @@ IsDue m q t limit run (turns.Stop stand) = IsStanding m q t limit run.steps (sta
 abbrev pub HasAdvanced : {C : Type 0} → Semantics C → Program → ℕ → ℕ → Running C → Running C → Option Stand → Type 0
 HasAdvanced m q t limit old new None = (old.steps < limit) × (new.steps ≡ old.steps + 1)
 HasAdvanced m q t limit old new (Some stand) = (new ≡ old) × IsStanding m q t limit new.steps (standing_of stand)
-
--- the verdict is that of the program's runs on the instances from t on
-pub record IsVerdictFrom {C : Type 0} (m : Semantics C) (q : Program) (limit t : ℕ) (judgement : Verdict) : Type 0 where
-  pub runs : List Stood
-  pub stood : AreStoodFrom m q limit t runs
-  pub is : verdict_of judgement ≡ verdict runs

@@ -1,7 +1,7 @@
 use Rattle.std.proofs.Common.{refl, sym, ◌∙◌, arith}
 use Rattle.std.proofs.lemmas.Bool.{false≢true}
-use Rattle.synthesis.proofs.Following.{goes_on, stands_ended, stands_waiting, stands_looping, stands_at_limit}
-use Rattle.synthesis.proofs.plain_run.Running.turn.Goals as goal
+use Rattle.interpreter.proofs.Following.{goes_on, stands_ended, stands_waiting, stands_looping, stands_at_limit}
+use Rattle.interpreter.proofs.plain_run.Running.turn.Goals as goal
 
 pub returns-then-line-lines-clause-due : goal.returns-then-line-lines-clause-due
 returns-then-line-lines-clause-due g c =

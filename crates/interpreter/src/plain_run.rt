@@ -4,10 +4,10 @@ ghost use Rattle.program_model.specs.Program.{Program, IsPartial};
 ghost use Rattle.program_model.specs.Run.{step};
 ghost use Rattle.program_model.specs.Verdict.{IsStood};
 ghost use Rattle.program_model.specs.Counts.{raised, op_count, operations};
-ghost use Rattle.synthesis.specs.Standings.{stood_of};
-ghost use Rattle.synthesis.specs.Progress.{config_of, Follows, IsDue, IsRepeated, with_mark, HasAdvanced};
+ghost use Rattle.interpreter.specs.Standings.{stood_of};
+ghost use Rattle.interpreter.specs.Progress.{config_of, Follows, IsDue, IsRepeated, with_mark, HasAdvanced};
 
-use crate::standing::{RunOutcome, Stand};
+use crate::standing::{Stand, Whole};
 use flag_rules::OutOfMemory;
 use program_model::{Instr, MAX_LINES, Machine, Partial};
 use std::alloc::Global;
@@ -215,48 +215,45 @@ impl<C: Drop> Running<C> {
         }
     }
 
-    /// The outcome of a run that stands.
-    fn outcome<M: Machine<Cfg = C>>(&self, machine: &M, t: u8, stand: Stand) -> RunOutcome
+    /// The whole run, where it stands.
+    fn whole<M: Machine<Cfg = C>>(&self, machine: &M, t: u8, stand: Stand) -> Whole
         requires instance { t < (M.semantics machine.now).instances }
         requires value { M.belongs machine.now t self.now.here.value }
         ensures { result ≡ record {
-          instance = t;
-          steps = self.now.steps;
           stand = stand;
+          steps = self.now.steps;
           missing = (M.semantics machine.now).missing t self.now.here.value;
         } }
     {
-        RunOutcome {
-            instance: t,
+        Whole {
+            stand,
             steps: self.steps,
             missing: machine.missing(t, &self.here.value),
-            stand,
         }
     }
 }
 
-/// The outcome of the run of a partial program on an instance, from the first configuration to where it stands under a
-/// limit of steps. The operations that it makes are counted at the meter.
-pub(crate) fn run_from_start<M: Machine>(
+/// The whole run of a partial program on an instance, from the first configuration to where it stands under a limit of
+/// steps. The operations that it makes are counted at the meter.
+pub fn from_start<M: Machine>(
     alloc: Global,
     machine: &M,
     partial: &Partial,
     t: u8,
     limit: u64,
     meter: &mut M::Meter,
-) -> Result<RunOutcome, OutOfMemory>
+) -> Result<Whole, OutOfMemory>
     requires instance { t < (M.semantics machine.now).instances }
     requires partial { IsPartial (M.semantics machine.now).ops partial.now }
     requires limit { limit ≤ MAX_RUN }
-    ensures stood { IfOk result (λ outcome. IsStood (M.semantics machine.now) partial.now limit (stood_of outcome)) }
-    ensures instance { IfOk result (λ outcome. outcome.instance ≡ t) }
-    ensures acts { IfOk result (λ outcome. M.acts meter.new
-        ≡ raised (M.acts meter.old) (operations (M.semantics machine.now) partial.now t outcome.steps)) }
+    ensures stood { IfOk result (λ whole. IsStood (M.semantics machine.now) partial.now limit (stood_of t whole)) }
+    ensures acts { IfOk result (λ whole. M.acts meter.new
+        ≡ raised (M.acts meter.old) (operations (M.semantics machine.now) partial.now t whole.steps)) }
 {
     let mut run = Running::start(alloc, machine, t)?;
     loop {
         if let Some(stand) = run.advance(machine, partial, t, limit, meter) {
-            return Ok(run.outcome(machine, t, stand));
+            return Ok(run.whole(machine, t, stand));
         }
     }
 }
