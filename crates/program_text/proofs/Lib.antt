@@ -1,0 +1,9 @@
+pub mod Found
+pub mod LineWords
+pub mod Turns
+pub mod Numbered
+pub mod SoFar
+pub mod Jumps
+pub mod Puts
+pub mod Spelled
+pub mod Apart
