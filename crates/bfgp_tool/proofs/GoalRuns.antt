@@ -20,7 +20,7 @@ use Rattle.program_model.specs.declared.instr.Instr.TheVariants.{Op, Goto, End}
 use Rattle.program_model.specs.Program.{Program, line_at}
 use Rattle.program_model.specs.Run.{Config, first, step, next, at, Ends, Solves, SolvesAll}
 use Rattle.pointer_machine.specs.declared.form.Form.{Form}
-use Rattle.pointer_machine.specs.declared.form.Form.TheVariants.{Act, Inc}
+use Rattle.pointer_machine.specs.declared.form.Form.TheVariants.{Act, Test, Inc, Dec, Clear, Set, Cmp}
 use Rattle.pointer_machine.specs.declared.pointing.Pointing.{Pointing}
 use Rattle.pointer_machine.specs.Operations.{operations}
 use Rattle.pointer_machine.specs.Meaning.{Effect, effect, operated, table_at, meaning}
@@ -47,7 +47,12 @@ either_keeps table one other false fits fits_too = fits_too
 
 effect_keeps : (task : TaskParts) (table : Ground) (form : Form) (pointers : List ℕ) (state : State) → IsStateOf table state → IsStateOf table (effect task table form pointers state).atoms
 effect_keeps task table (Act schema args) pointers state fits = acted_keeps task table schema _ state fits
+effect_keeps task table (Test pred args) pointers state fits = fits
 effect_keeps task table (Inc pointer) pointers state fits = either_keeps table _ _ (nat_lt (slice_index pointers pointer + 1) (length table.object_types)) fits fits
+effect_keeps task table (Dec pointer) pointers state fits = either_keeps table _ _ (nat_lt 0 (slice_index pointers pointer)) fits fits
+effect_keeps task table (Clear pointer) pointers state fits = fits
+effect_keeps task table (Set pointer other) pointers state fits = fits
+effect_keeps task table (Cmp pointer other) pointers state fits = fits
 
 operated_keeps : (task : TaskParts) (table : Ground) (form : Option Form) (value : Pointing) → IsStateOf table value.atoms → IsStateOf table (operated task table form value).atoms
 operated_keeps task table None value fits = fits

@@ -63,6 +63,9 @@ tree 2
 s 0 0
 g
 f 0 1
+f 0 1
+f 0 1
+f 0 1
 program
 act light p0
 end
@@ -82,9 +85,15 @@ tree 2
 s 0 0
 f 0 1
 f 0 1
+f 0 1
+f 0 1
+f 0 1
 tree 3
 s 0 1
 s 1 2
+f 0 2
+f 0 2
+f 0 2
 f 0 2
 f 0 2
 f 0 2
@@ -95,10 +104,46 @@ s 1 3
 f 0 2
 f 0 2
 f 0 2
+f 0 2
+f 0 2
+l 0 1 3
+f 0 2
+f 0 2
+l 0 1 3
+s 1 4
+f 0 2
+f 0 2
+f 0 2
+f 0 2
+f 0 2
+f 0 2
 f 0 4
 f 0 4
 f 0 2
-s 1 4
+s 1 5
+f 0 2
+f 0 2
+f 0 2
+f 0 2
+f 0 2
+l 0 1 3
+f 0 2
+f 0 2
+l 0 1 3
+s 1 6
+f 0 2
+f 0 2
+f 0 2
+f 0 2
+f 0 2
+l 0 1 3
+f 0 2
+f 0 2
+l 0 1 3
+s 1 7
+f 0 2
+f 0 2
+f 0 2
 f 0 2
 f 0 2
 f 0 2
@@ -106,7 +151,10 @@ l 0 1 3
 f 0 2
 l 0 1 3
 f 0 1
-s 1 5
+s 1 8
+f 0 2
+f 0 2
+f 0 2
 f 0 2
 f 0 2
 f 0 2
@@ -155,7 +203,7 @@ fn programs_and_refutations(rt: HostRuntime) -> Result<(), Fail> {
             LIGHTS,
             UNLIT,
             Status::Done,
-            "bfgp answer 1\npointers 2\nlines 2\ninstances 1\nverdict program 2\ntree 1\nf 0 0\ntree 2\ns 0 0\ng\ng\nf 0 1\nf 0 1\nprogram\nact light p0\nend\nends 0 1\nend of answer\n",
+            "bfgp answer 1\npointers 2\nlines 2\ninstances 1\nverdict program 2\ntree 1\nf 0 0\ntree 2\ns 0 0\ng\ng\nf 0 1\nf 0 1\nf 0 1\nf 0 1\nf 0 1\nf 0 1\nf 0 1\nf 0 1\nf 0 1\nf 0 1\nf 0 1\nf 0 1\nprogram\nact light p0\nend\nends 0 1\nend of answer\n",
         ),
         // an atom that is deleted and added is true afterwards, and an action that is not applicable changes nothing
         (
@@ -163,7 +211,7 @@ fn programs_and_refutations(rt: HostRuntime) -> Result<(), Fail> {
             "(define (domain lights) (:predicates (lit ?x) (on)) (:action renew :parameters (?x) :precondition (lit ?x) :effect (and (lit ?x) (not (lit ?x)) (on))))",
             "(define (problem p) (:domain lights) (:objects a b) (:init (lit a)) (:goal (and (on) (lit a))))",
             Status::Done,
-            "bfgp answer 1\npointers 1\nlines 2\ninstances 1\nverdict program 2\ntree 1\nf 0 0\ntree 2\ns 0 0\ng\nf 0 1\nprogram\nact renew p0\nend\nends 0 1\nend of answer\n",
+            "bfgp answer 1\npointers 1\nlines 2\ninstances 1\nverdict program 2\ntree 1\nf 0 0\ntree 2\ns 0 0\ng\nf 0 1\nf 0 1\nf 0 1\nf 0 1\nf 0 1\nprogram\nact renew p0\nend\nends 0 1\nend of answer\n",
         ),
         // the goal of no atoms is met at once
         (
@@ -202,14 +250,14 @@ fn programs_and_refutations(rt: HostRuntime) -> Result<(), Fail> {
             CELLS,
             "(define (problem p) (:domain cells) (:objects a - cell) (:goal (seen a)))",
             Status::Done,
-            "bfgp answer 1\npointers 1\nlines 2\ninstances 1\nverdict program 2\ntree 1\nf 0 0\ntree 2\ns 0 0\ng\nf 0 1\nprogram\nact look p0\nend\nends 0 1\nend of answer\n",
+            "bfgp answer 1\npointers 1\nlines 2\ninstances 1\nverdict program 2\ntree 1\nf 0 0\ntree 2\ns 0 0\ng\nf 0 1\nf 0 1\nf 0 1\nf 0 1\nprogram\nact look p0\nend\nends 0 1\nend of answer\n",
         ),
         (
             "synth --pointers 1 --lines 2 d i",
             "(define (domain cells) (:types cell - place) (:constants b) (:predicates (seen ?x)) (:action look :parameters (?x - place) :effect (seen ?x)))",
             "(define (problem p) (:domain cells) (:objects a - cell) (:goal (seen b)))",
             Status::No,
-            "bfgp answer 1\npointers 1\nlines 2\ninstances 1\nverdict none\ntree 1\nf 0 0\ntree 2\ns 0 0\nf 0 1\nf 0 1\nend of answer\n",
+            "bfgp answer 1\npointers 1\nlines 2\ninstances 1\nverdict none\ntree 1\nf 0 0\ntree 2\ns 0 0\nf 0 1\nf 0 1\nf 0 1\nf 0 1\nf 0 1\nend of answer\n",
         ),
         (
             CALL,
@@ -232,7 +280,7 @@ fn programs_and_refutations(rt: HostRuntime) -> Result<(), Fail> {
             LIGHTS,
             UNLIT,
             Status::Done,
-            "bfgp answer 1\npointers 1\nlines 3\ninstances 2\nverdict program 2\ntree 1\nf 0 0\ntree 2\ns 0 0\ng\nf 0 1\nprogram\nact light p0\nend\nends 0 1\nends 1 1\nend of answer\n",
+            "bfgp answer 1\npointers 1\nlines 3\ninstances 2\nverdict program 2\ntree 1\nf 0 0\ntree 2\ns 0 0\ng\nf 0 1\nf 0 1\nf 0 1\nf 0 1\nprogram\nact light p0\nend\nends 0 1\nends 1 1\nend of answer\n",
         ),
     ];
     for (line, domain, instance, status, text) in cases {
@@ -759,19 +807,9 @@ fn limits_at_their_bounds_and_one_past(rt: HostRuntime) -> Result<(), Fail> {
 // A domain whose actions have as many operations over four pointers as there may be but four, or one more.
 fn many_actions(alloc: Global, one_more: bool) -> Result<String, AllocError> {
     let mut domain = String::from_str(alloc, "(define (domain lights) (:predicates (lit ?x))")?;
-    for (number, params) in [
-        "?a ?b ?c ?d",
-        "?a ?b ?c",
-        "?a ?b ?c",
-        "?a ?b",
-        "?a ?b",
-        "?a ?b",
-        "?a",
-        "?a",
-        "?a",
-    ]
-    .iter()
-    .enumerate()
+    for (number, params) in ["?a ?b ?c ?d", "?a ?b ?c", "?a ?b ?c", "?a ?b", "?a", "?a"]
+        .iter()
+        .enumerate()
     {
         domain.push_str(format!(in alloc;
             " (:action a{number} :parameters ({params}) :precondition () :effect ())"

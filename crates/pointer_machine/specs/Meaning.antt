@@ -1,14 +1,14 @@
 -- What the operations do: a value is the objects of the pointers, a sign, and a state of the instance's ground atoms.
-use Rattle.std.specs.Prelude.{◌≡◌, ℕ, ◌+◌, ◌<◌, ℤ, pos, nat_lt, List, [], ◌∷◌, map, length, slice_get, slice_index, slice_set, slice_index_or, All, Option, Some, None, if◌then◌else◌}
+use Rattle.std.specs.Prelude.{◌≡◌, ℕ, ◌+◌, ◌-◌, ◌<◌, ℤ, pos, ◌-ℤ◌, nat_lt, List, [], ◌∷◌, map, length, slice_get, slice_index, slice_set, slice_index_or, All, Option, Some, None, if◌then◌else◌}
 use Rattle.flag_rules.specs.Flags.{sign_of_int}
 use Rattle.flag_rules.specs.declared.flags.Sign.TheVariants as signs
 use Rattle.program_model.specs.Semantics.{Semantics}
 use Rattle.ground_state.specs.declared.parts.TaskParts.{TaskParts}
-use Rattle.ground_state.specs.State.{State, missing}
+use Rattle.ground_state.specs.State.{State, is_true, missing}
 use Rattle.ground_state.specs.Ground.{Ground, IsStateOf}
 use Rattle.ground_state.specs.Action.{is_applicable, acted}
 use Rattle.pointer_machine.specs.declared.form.Form.{Form}
-use Rattle.pointer_machine.specs.declared.form.Form.TheVariants.{Act, Inc}
+use Rattle.pointer_machine.specs.declared.form.Form.TheVariants.{Act, Test, Inc, Dec, Clear, Set, Cmp}
 use Rattle.pointer_machine.specs.declared.pointing.Pointing.{Pointing}
 use Rattle.pointer_machine.specs.Operations.{operations}
 
@@ -22,18 +22,43 @@ pub record Effect : Type 0 where
   pub atoms : State
   pub res : ℤ
 
--- acting where it is applicable, which gives 1, and changes no atom and gives 0 elsewhere; moving a pointer to the next object
--- where there is one, which gives 1, and leaves it and gives 0 elsewhere
+-- what each operation does:
+-- acting, where it is applicable, gives 1; elsewhere it changes no atom and gives 0
+-- testing changes nothing; it gives 1 where the atom is true, and 0 where it is not
+-- moving a pointer to the next object, or to the one before, gives 1 where there is one; elsewhere the pointer stays, and it gives 0
+-- clearing moves a pointer to object 0 and gives 0
+-- setting moves a pointer to the object of another one and gives that object's number
+-- comparing changes nothing; it gives the number of the one pointer's object minus that of the other's
 abbrev pub effect : TaskParts → Ground → Form → List ℕ → State → Effect
 effect task table (Act schema args) pointers atoms = record {
   pointers = pointers;
   atoms = acted task table schema (pointed pointers args) atoms;
   res = pos (if is_applicable task table schema (pointed pointers args) atoms then 1 else 0);
 }
+effect task table (Test pred args) pointers atoms = record {
+  pointers = pointers;
+  atoms = atoms;
+  res = pos (if is_true (length table.object_types) table.arities atoms (record { pred = pred; args = pointed pointers args }) then 1 else 0);
+}
 effect task table (Inc pointer) pointers atoms =
     if nat_lt (slice_index pointers pointer + 1) (length table.object_types)
     then record { pointers = slice_set pointers pointer (slice_index pointers pointer + 1); atoms = atoms; res = pos 1 }
     else record { pointers = pointers; atoms = atoms; res = pos 0 }
+effect task table (Dec pointer) pointers atoms =
+    if nat_lt 0 (slice_index pointers pointer)
+    then record { pointers = slice_set pointers pointer (slice_index pointers pointer - 1); atoms = atoms; res = pos 1 }
+    else record { pointers = pointers; atoms = atoms; res = pos 0 }
+effect task table (Clear pointer) pointers atoms = record { pointers = slice_set pointers pointer 0; atoms = atoms; res = pos 0 }
+effect task table (Set pointer other) pointers atoms = record {
+  pointers = slice_set pointers pointer (slice_index pointers other);
+  atoms = atoms;
+  res = pos (slice_index pointers other);
+}
+effect task table (Cmp pointer other) pointers atoms = record {
+  pointers = pointers;
+  atoms = atoms;
+  res = pos (slice_index pointers pointer) -ℤ pos (slice_index pointers other);
+}
 
 -- a value after an effect: the sign is that of the result
 abbrev pub after : Effect → Pointing

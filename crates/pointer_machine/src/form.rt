@@ -1,4 +1,7 @@
 ghost use Rattle.std.specs.Prelude.{◌≡◌, ◌≤◌, length};
+ghost use Rattle.std.specs.Str.{bytes_eq};
+ghost use Rattle.std.specs.Cmp.Rules.{comparing};
+ghost use Rattle.std.proofs.Common.{rules};
 ghost use Rattle.ground_state.specs.declared.parts.TheConstants.{MAX_PARAMETERS};
 
 use ground_state::MAX_PARAMETERS;
@@ -43,11 +46,35 @@ impl Args {
     }
 }
 
+impl PartialEq for Args {
+    ghost eq = { bytes_eq };
+
+    ghost laws = { Prim.search (comparing, rules) };
+
+    fn eq(&self, other: &Self) -> bool {
+        self.as_slice() == other.as_slice()
+    }
+}
+
+impl Eq for Args {
+    ghost laws = { Prim.search (comparing, rules) };
+}
+
 /// An operation of a machine over ground atoms. Pointers are numbered from 0. Own.
-#[derive(Debug, Drop)]
+#[derive(Debug, PartialEq, Eq, Drop)]
 pub enum Form {
     /// Acts by the action schema of a number at the objects that the pointers stand at, where that is applicable.
     Act { schema: u32, args: Args },
+    /// Tells whether the atom of the predicate of a number at the objects that the pointers stand at is true.
+    Test { pred: u32, args: Args },
     /// Moves the pointer to the next object, where there is one.
     Inc(u8),
+    /// Moves the pointer to the object before, where there is one.
+    Dec(u8),
+    /// Moves the pointer to object 0.
+    Clear(u8),
+    /// Moves the first pointer to the object of the second one.
+    Set(u8, u8),
+    /// Compares the object of the first pointer with that of the second one.
+    Cmp(u8, u8),
 }

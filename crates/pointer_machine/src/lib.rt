@@ -11,7 +11,7 @@ mod refusal;
 mod texts;
 
 pub use form::{Args, Form};
-pub use laws::operations_are_counted;
+pub use laws::{operations_are_counted, operations_differ};
 pub use machine::PointerMachine;
 pub use meter::Meter;
 pub use pointing::Pointing;

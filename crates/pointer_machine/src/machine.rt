@@ -1,4 +1,4 @@
-ghost use Rattle.std.specs.Prelude.{◌≡◌, ◌<◌, ◌≤◌, length, slice_get, All, Some, Err, IfOk, IsOkUnless};
+ghost use Rattle.std.specs.Prelude.{◌≡◌, ◌<◌, ◌≤◌, length, slice_get, All, Contains, MatchOption, Some, Err, IfOk, IsOkUnless};
 ghost use Rattle.ground_state.specs.Action.{IsTableOf};
 ghost use Rattle.program_model.specs.declared.alphabet.TheConstants.{MAX_OPS};
 ghost use Rattle.program_model.specs.declared.machine.TheConstants.{MAX_INSTANCES, MAX_POINTERS};
@@ -9,7 +9,7 @@ ghost use Rattle.pointer_machine.specs.Machine.{meaning_of};
 
 use crate::form::Form;
 use crate::meter::Meter;
-use crate::operations::{count_operations, list_operations};
+use crate::operations::{count_operations, list_operations, place_of};
 use crate::pointing::Pointing;
 use crate::refusal::MachineRefusal;
 use crate::texts::texts_of;
@@ -93,6 +93,16 @@ impl PointerMachine {
         ensures { slice_get (operations self.now.task self.now.pointers) op ≡ Some result.now }
     {
         &self.forms[op as usize]
+    }
+
+    /// The number of an operation, if it is one of this machine.
+    pub fn op_of(&self, form: &Form) -> Option<u32>
+        ensures { MatchOption result
+            (¬ Contains (operations self.now.task self.now.pointers) form.now)
+            (λ op. slice_get (operations self.now.task self.now.pointers) op ≡ Some form.now) }
+    {
+        let op = place_of(self.forms.as_slice(), form)?;
+        Some(op as u32)
     }
 
     /// The texts of all operations, in order.

@@ -1,6 +1,7 @@
-ghost use Rattle.std.specs.Prelude.{◌≡◌, ◌+◌, ◌<◌, ◌≤◌, All, IfOk, length, map, nat_lt, slice_index, slice_set, take, if◌then◌else◌};
+ghost use Rattle.std.specs.Prelude.{◌≡◌, ◌+◌, ◌-◌, ◌<◌, ◌≤◌, All, pos, IfOk, length, map, nat_lt, slice_index, slice_set, take, if◌then◌else◌};
 ghost use Rattle.ground_state.specs.declared.parts.TheConstants.{MAX_PARAMETERS};
 ghost use Rattle.ground_state.specs.Action.{IsTableOf, acted, is_applicable};
+ghost use Rattle.ground_state.specs.State.{is_true};
 ghost use Rattle.ground_state.specs.Ground.{IsStateOf};
 ghost use Rattle.program_model.specs.declared.machine.TheConstants.{MAX_POINTERS};
 ghost use Rattle.pointer_machine.specs.declared.form.Form.TheVariants as forms;
@@ -73,7 +74,16 @@ impl Pointing {
             Form::Act { schema, args } => {
                 i64::from(self.act_at(task, table, *schema, args.as_slice()))
             }
+            Form::Test { pred, args } => {
+                i64::from(self.is_true_at(task, table, *pred, args.as_slice()))
+            }
             Form::Inc(pointer) => i64::from(self.move_on(*pointer, table.objects())),
+            Form::Dec(pointer) => i64::from(self.move_back(*pointer)),
+            Form::Clear(pointer) => self.point_to(*pointer, 0),
+            Form::Set(pointer, other) => self.point_to(*pointer, self.object_of(*other)),
+            Form::Cmp(pointer, other) => {
+                i64::from(self.object_of(*pointer)) - i64::from(self.object_of(*other))
+            }
         }
     }
 
@@ -92,6 +102,19 @@ impl Pointing {
     {
         let objects = self.pointed(args);
         apply(task, table, schema, &objects[..args.len()], &mut self.atoms)
+    }
+
+    /// Whether the atom of a predicate at the objects that some pointers stand at is true.
+    fn is_true_at(&self, task: &Task, table: &AtomTable, pred: u32, args: &[u8]) -> bool
+        requires table { IsTableOf task.now table.now }
+        requires value { IsValueOf table.now self.now }
+        requires form { IsForm task.now MAX_POINTERS (forms.Test pred args.now) }
+        requires few { length args.now ≤ MAX_PARAMETERS }
+        ensures { result ≡ is_true (length table.now.object_types) table.now.arities self.now.atoms
+            (record { pred = pred; args = pointed self.now.pointers args.now }) }
+    {
+        let objects = self.pointed(args);
+        self.atoms.holds(table, pred, &objects[..args.len()])
     }
 
     /// The objects that some pointers stand at, in the first places of an array.
@@ -124,5 +147,43 @@ impl Pointing {
         }
         *object += 1;
         true
+    }
+
+    /// Moves a pointer to the object before, where there is one, and says whether it moved.
+    fn move_back(&mut self, pointer: u8) -> bool
+        requires { pointer < length self.old.pointers }
+        ensures moved { result ≡ nat_lt 0 (slice_index self.old.pointers pointer) }
+        ensures pointers { self.new.pointers ≡ (if result
+            then slice_set self.old.pointers pointer (slice_index self.old.pointers pointer - 1)
+            else self.old.pointers) }
+        ensures sign { self.new.sign ≡ self.old.sign }
+        ensures atoms { self.new.atoms ≡ self.old.atoms }
+    {
+        let object = &mut self.pointers[usize::from(pointer)];
+        if *object == 0 {
+            return false;
+        }
+        *object -= 1;
+        true
+    }
+
+    /// Moves a pointer to an object, and gives the object's number.
+    fn point_to(&mut self, pointer: u8, object: u16) -> i64
+        requires { pointer < length self.old.pointers }
+        ensures number { result ≡ pos object }
+        ensures pointers { self.new.pointers ≡ slice_set self.old.pointers pointer object }
+        ensures sign { self.new.sign ≡ self.old.sign }
+        ensures atoms { self.new.atoms ≡ self.old.atoms }
+    {
+        self.pointers[usize::from(pointer)] = object;
+        i64::from(object)
+    }
+
+    /// The object that a pointer stands at.
+    fn object_of(&self, pointer: u8) -> u16
+        requires { pointer < length self.now.pointers }
+        ensures { result ≡ slice_index self.now.pointers pointer }
+    {
+        self.pointers[usize::from(pointer)]
     }
 }

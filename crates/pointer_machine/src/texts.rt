@@ -1,4 +1,4 @@
-ghost use Rattle.std.specs.Prelude.{◌≡◌, ◌<◌, ◌++◌, IfOk, OnOk, All, codes, flat_map, length, map};
+ghost use Rattle.std.specs.Prelude.{◌≡◌, ◌<◌, ◌++◌, IfOk, OnOk, All, flat_map, length, map};
 ghost use Rattle.program_model.specs.declared.machine.TheConstants.{MAX_POINTERS};
 ghost use Rattle.pointer_machine.specs.Operations.{IsForm};
 ghost use Rattle.pointer_machine.specs.Texts.{pointer_text, then_pointer, form_text};
@@ -34,28 +34,53 @@ fn text_of(alloc: Global, task: &Task, form: &Form) -> Result<Text, OutOfMemory>
             let name = task.parts().schemas.as_slice()[*schema as usize]
                 .name
                 .as_slice();
-            act_text(alloc, name, args.as_slice())
+            named_text(alloc, b"act ", name, args.as_slice())
         }
-        Form::Inc(pointer) => {
-            let mut text = Text::of(alloc, b"inc ")?;
-            append_pointer(&mut text, *pointer)?;
-            Ok(text)
+        Form::Test { pred, args } => {
+            let name = task.parts().predicates.as_slice()[*pred as usize]
+                .name
+                .as_slice();
+            named_text(alloc, b"test ", name, args.as_slice())
         }
+        Form::Inc(pointer) => pointers_text(alloc, b"inc", &[*pointer]),
+        Form::Dec(pointer) => pointers_text(alloc, b"dec", &[*pointer]),
+        Form::Clear(pointer) => pointers_text(alloc, b"clear", &[*pointer]),
+        Form::Set(pointer, other) => pointers_text(alloc, b"set", &[*pointer, *other]),
+        Form::Cmp(pointer, other) => pointers_text(alloc, b"cmp", &[*pointer, *other]),
     }
 }
 
-/// The text of acting by a schema of this name.
-fn act_text(alloc: Global, name: &[u8], args: &[u8]) -> Result<Text, OutOfMemory>
-    requires { All (λ pointer. pointer < MAX_POINTERS) args.now }
-    ensures { IfOk result (λ text. text ≡ codes "act " ++ name.now ++ flat_map then_pointer args.now) }
+/// A word, a name, and pointers.
+fn named_text(alloc: Global, word: &[u8], name: &[u8], pointers: &[u8]) -> Result<Text, OutOfMemory>
+    requires { All (λ pointer. pointer < MAX_POINTERS) pointers.now }
+    ensures { IfOk result (λ text. text ≡ word.now ++ name.now ++ flat_map then_pointer pointers.now) }
 {
-    let mut text = Text::of(alloc, b"act ")?;
+    let mut text = Text::of(alloc, word)?;
     text.append(name)?;
-    for pointer in args {
-        text.append(b" ")?;
-        append_pointer(&mut text, *pointer)?;
-    }
+    append_pointers(&mut text, pointers)?;
     Ok(text)
+}
+
+/// A word and pointers.
+fn pointers_text(alloc: Global, word: &[u8], pointers: &[u8]) -> Result<Text, OutOfMemory>
+    requires { All (λ pointer. pointer < MAX_POINTERS) pointers.now }
+    ensures { IfOk result (λ text. text ≡ word.now ++ flat_map then_pointer pointers.now) }
+{
+    let mut text = Text::of(alloc, word)?;
+    append_pointers(&mut text, pointers)?;
+    Ok(text)
+}
+
+/// Adds pointers to a text, each after a space.
+fn append_pointers(text: &mut Text, pointers: &[u8]) -> Result<(), OutOfMemory>
+    requires { All (λ pointer. pointer < MAX_POINTERS) pointers.now }
+    ensures { OnOk result (text.new ≡ text.old ++ flat_map then_pointer pointers.now) }
+{
+    for pointer in pointers {
+        text.append(b" ")?;
+        append_pointer(text, *pointer)?;
+    }
+    Ok(())
 }
 
 /// Adds a pointer to a text.

@@ -1,0 +1,19 @@
+use Rattle.std.proofs.Common.{arith, ◌∙◌, ap, ◌++◌}
+use Rattle.pointer_machine.specs.declared.form.Form.TheVariants.{Test}
+use Rattle.pointer_machine.proofs.Counts.{tuples_few}
+use Rattle.pointer_machine.proofs.Lists.{tuples_more, tuples_all}
+use Rattle.pointer_machine.proofs.operations.list_tests_of.Goals as goal
+
+pub pow-place-end-requires : goal.pow-place-end-requires
+pow-place-end-requires c =
+    rw (c.from.ensures, c.from-2.ensures) (omega (arith, tuples_few c.args.pointers c.args.arity c.requires.few (omega (arith, c.requires.arity))))
+
+pub loop-place-preserved : goal.loop-place-preserved
+loop-place-preserved c =
+    let here = rw c.from-in-loop-place.ensures at c.args_at-args.ensures in
+    tuples_more (λ args. Test c.args.pred args) c.args.pointers c.args.arity c.loop-place.place _ _ _ _ here c.loop-place.invariant c.in_ok-push.ensures.items
+
+pub returns : goal.returns
+returns c =
+    let power = rw (c.from.ensures, c.from-2.ensures) at c.pow-place-end.ensures in
+    c.loop-place.invariant ∙ ap (λ items. c.args.listed.now.items ++ items) (tuples_all (λ args. Test c.args.pred args) c.args.pointers c.args.arity c.loop-place.place (omega (arith, c.loop-place-test.false, power)))
