@@ -42,6 +42,13 @@ pub knowing_both : (told : Option Files) (P Q R : Files → Type 0) → ((files 
 knowing_both (Some files) P Q R goes p q = goes files p q
 knowing_both None P Q R goes p q = tt
 
+-- the same of steps over the files, where the shelf tells them
+pub known_next : {A B : Type 0} (told : Option Files) (step : Files → Result A Reply → Type 0) (next : Files → A → Result B Reply → Type 0) (a : A) (r : Result B Halt) → Knowing told (λ files. Gives (step files) (Ok a)) → Knowing told (λ files. Gives (next files a) r) → Knowing told (λ files. Gives (step files >>= next files) r)
+known_next told step next a r = knowing_both told (λ files. Gives (step files) (Ok a)) (λ files. Gives (next files a) r) (λ files. Gives (step files >>= next files) r) (λ files here after. then_next (step files) (next files) a r here after)
+
+pub known_end : {A B : Type 0} (told : Option Files) (step : Files → Result A Reply → Type 0) (next : Files → A → Result B Reply → Type 0) (halt : Halt) → Knowing told (λ files. Gives (step files) (Err halt)) → Knowing told (λ files. Gives {A = B} (step files >>= next files) (Err halt))
+known_end {A} {B} told step next halt = knowing told (λ files. Gives (step files) (Err halt)) (λ files. Gives {A = B} (step files >>= next files) (Err halt)) (λ files here. then_end (step files) (next files) halt here)
+
 -- what ended the job without a read has its cause, whatever the counts
 pub other_cause : (reads reads_now absences absences_now : ℕ) (halt : Halt) → TellsOther halt → HaltCause reads reads_now absences absences_now halt
 other_cause reads reads_now absences absences_now (Early reply) tells = record { name = tells.0; fault = tells.1; is = tells.2; absent = λ is. absurd (tells.3 is) }

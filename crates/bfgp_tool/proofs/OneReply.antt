@@ -1,10 +1,6 @@
 -- One reply is due.
-use Rattle.std.proofs.Common.{◌≡◌, ℕ, ◌<◌, List, [], ◌∷◌, decimal, Option, Some, None, Result, Ok, Err, refl, sym, ◌∙◌, ap, subst, arith}
-use Rattle.std.proofs.lemmas.Fmt.{decimal_injective}
+use Rattle.std.proofs.Common.{◌≡◌, ℕ, ◌<◌, ◌≤◌, List, [], ◌∷◌, Option, Some, Result, Ok, Err, refl, sym, ◌∙◌, ap, subst, arith}
 use Rattle.bfgp_outside.specs.Shelf.{Files}
-use Rattle.bfgp_outside.specs.Whole.{whole_of}
-use Rattle.bfgp_outside.specs.declared.whole.ReadRefusal.{ReadRefusal}
-use Rattle.bfgp_tool.specs.declared.input.TheConstants.{MAX_INPUT_BYTES}
 use Rattle.pddl_parser.specs.declared.refusal.ParseRefusal.{ParseRefusal}
 use Rattle.pddl_parser.specs.declared.refusal.ParseRefusal.TheVariants as parse
 use Rattle.pddl_parser.specs.declared.texts.DomainText.{DomainText}
@@ -24,10 +20,20 @@ use Rattle.ground_state.specs.declared.refusal.GroundRefusal.TheVariants as grou
 use Rattle.ground_state.specs.Ground.{Ground, atoms_needed}
 use Rattle.ground_state.specs.declared.parts.TheConstants.{MAX_ATOMS}
 use Rattle.program_model.specs.declared.alphabet.TheConstants.{MAX_OPS}
+use Rattle.program_model.specs.declared.machine.TheConstants.{MAX_POINTERS}
+use Rattle.program_model.specs.Program.{Program, IsProgram}
+use Rattle.program_text.specs.declared.refusal.ProgramRefusal.{ProgramRefusal}
+use Rattle.program_text.specs.declared.refusal.ProgramRefusal.TheVariants as programs
+use Rattle.program_text.specs.Names.{AreNames}
+use Rattle.program_text.specs.Lines.{instruction_lines}
+use Rattle.program_text.specs.Reading.{Reads}
+use Rattle.program_text.proofs.Apart.{says_one}
+use Rattle.instance_report.specs.declared.answer.Report.{Report}
+use Rattle.instance_report.proofs.OneReport.{same_report}
 use Rattle.pointer_machine.specs.declared.refusal.MachineRefusal.{MachineRefusal}
 use Rattle.pointer_machine.specs.declared.refusal.MachineRefusal.TheVariants as made
 use Rattle.pointer_machine.specs.Operations.{operation_count}
-use Rattle.pointer_machine.specs.Meaning.{meaning}
+use Rattle.pointer_machine.specs.Machine.{MachineParts, meaning_of}
 use Rattle.pointer_machine.specs.Texts.{operation_texts}
 use Rattle.synthesis.specs.declared.limits.TheConstants.{BUDGET, RUN_LIMIT}
 use Rattle.synthesis.specs.declared.evidence.Answer.{Answer as SearchAnswer}
@@ -36,14 +42,19 @@ use Rattle.synthesis.proofs.SameAnswers.{same_answer}
 use Rattle.bfgp_tool.specs.declared.domain_reading.Domain.{Domain}
 use Rattle.bfgp_tool.specs.declared.fault.Fault.{Fault}
 use Rattle.bfgp_tool.specs.declared.fault.Fault.TheVariants as faults
+use Rattle.bfgp_tool.specs.declared.job.Inputs.{Inputs}
 use Rattle.bfgp_tool.specs.declared.job.Job.{Job}
+use Rattle.bfgp_tool.specs.declared.job.Job.TheVariants.{Synth, Run}
 use Rattle.bfgp_tool.specs.declared.reply.Reply.{Reply}
-use Rattle.bfgp_tool.specs.Words.{JobOf}
-use Rattle.bfgp_tool.specs.Faults.{reading_fault, parsing_fault, task_fault, ground_fault, machine_fault}
-use Rattle.bfgp_tool.specs.Steps.{goes_on}
+use Rattle.bfgp_tool.specs.Words.{IsJob, JobOf}
+use Rattle.bfgp_tool.specs.Faults.{reading_fault, parsing_fault, task_fault, ground_fault, machine_fault, program_fault}
 use Rattle.bfgp_tool.specs.Grounding.{IsGroundReply, IsCountReply}
 use Rattle.bfgp_tool.specs.Document.{document}
-use Rattle.bfgp_tool.specs.Due.{Due, answer, fault, usage, IsWhole, file_due, domain_due, table_due, tables_due, answer_due, job_due, status_of}
+use Rattle.bfgp_tool.specs.Due.{Due, answer, fault, usage, IsWhole, file_due, domain_due, table_due, tables_due, machine_due, answer_due, report_due, job_due, status_of, report_status}
+use Rattle.bfgp_tool.proofs.Held.{machine_held}
+use Rattle.bfgp_tool.proofs.OneJob.{job_kept, JobOf-unique}
+use Rattle.bfgp_tool.proofs.OperationNames.{operations-named}
+use Rattle.bfgp_tool.proofs.Runs.{program_over}
 use Rattle.bfgp_tool.proofs.Decided.{IsDecided, IsDefinite, pure_decided, then_decided, tell_decided}
 
 -- each call of a job is definite
@@ -144,39 +155,62 @@ module _ (files : Files) (domain : Domain) where
       then_decided (tables_decided names) (λ tables others.
       pure_decided (table ∷ tables))))
 
-answer_decided : (task : TaskParts) (tables : List Ground) (pointers lines : ℕ) → IsDecided (answer_due task tables pointers lines)
-answer_decided task tables pointers lines = record { one = both }
+-- what a program text says, in the texts of a machine's operations
+no_memory : (e : ProgramRefusal) (x : Fault) → program_fault e ≡ Some x → (same : ◌≡◌ {A = Result Program ProgramRefusal} (Err e) (Err programs.OutOfMemory)) → ⊥
+no_memory e x is same = let memory : e ≡ programs.OutOfMemory = cc in let none = ap program_fault memory in absurd (cc)
+
+program_definite : (texts : List (List ℕ)) (bytes : List ℕ) → AreNames texts → IsDefinite program_fault (Reads texts bytes)
+program_definite texts bytes named = record {
+  value = λ a b p q. let same = says_one texts (instruction_lines bytes) (Ok a) (Ok b) named p q (λ is. absurd (cc)) (λ is. absurd (cc)) in cc;
+  fault = λ d e x y dx ey p q. let same = says_one texts (instruction_lines bytes) (Err d) (Err e) named p q (no_memory d x dx) (no_memory e y ey) in let is : d ≡ e = cc in let there = ap program_fault is in cc;
+  apart = λ a e x ex p q. let same = says_one texts (instruction_lines bytes) (Ok a) (Err e) named p q (λ is. absurd (cc)) (no_memory e x ex) in absurd (cc);
+}
+
+machine_decided : (files : Files) (inputs : Inputs) (pointers : ℕ) → IsDecided (machine_due files inputs pointers)
+machine_decided files inputs pointers =
+    then_decided (file_decided files inputs.domain) (λ bytes read.
+    then_decided (domain_decided inputs.domain bytes) (λ domain numbered.
+    then_decided (tables_decided files domain inputs.instances) (λ tables made.
+    then_decided (tell_decided inputs.domain (count_definite domain.task pointers)) (λ counted few.
+    pure_decided (record { task = domain.task; tables = tables; pointers = pointers })))))
+
+answer_decided : (machine : MachineParts) (lines : ℕ) → IsDecided (answer_due machine lines)
+answer_decided machine lines = record { one = both }
   where
     reply_with : SearchAnswer → Reply
-    reply_with a = record { status = status_of a.outcome; text = document (operation_texts task pointers) a }
+    reply_with a = record { status = status_of a.outcome; text = document (operation_texts machine.task machine.pointers) a }
 
-    both : (r s : Result Reply Reply) → answer_due task tables pointers lines r → answer_due task tables pointers lines s → r ≡ s
-    both (Ok x) (Ok y) p q = ap Ok (p.2 ∙ ap reply_with (same_answer (plain (meaning task tables pointers) RUN_LIMIT) BUDGET lines p.0 q.0 p.1 q.1) ∙ sym q.2)
+    both : (r s : Result Reply Reply) → answer_due machine lines r → answer_due machine lines s → r ≡ s
+    both (Ok x) (Ok y) p q = ap Ok (p.2 ∙ ap reply_with (same_answer (plain (meaning_of machine) RUN_LIMIT) BUDGET lines p.0 q.0 p.1 q.1) ∙ sym q.2)
     both (Ok x) (Err y) p q = absurd q
     both (Err x) s p q = absurd p
 
-job_decided : (files : Files) (job : Job) → IsDecided (job_due files job)
-job_decided files job =
-    then_decided (file_decided files job.domain) (λ bytes read.
-    then_decided (domain_decided job.domain bytes) (λ domain numbered.
-    then_decided (tables_decided files domain job.instances) (λ tables made.
-    then_decided (tell_decided job.domain (count_definite domain.task job.pointers)) (λ counted few.
-    answer_decided domain.task tables job.pointers job.lines))))
+report_decided : (machine : MachineParts) (limit : ℕ) (program : Program) → IsProgram (meaning_of machine).ops program → IsDecided (report_due machine limit program)
+report_decided machine limit program whole = record { one = both }
+  where
+    reply_with : Report → Reply
+    reply_with report = record { status = report_status report.all_solved; text = report.text }
 
--- the words are those of one job at most
-JobOf-unique : (words : List (List ℕ)) (one other : Job) → JobOf words one → JobOf words other → one ≡ other
-JobOf-unique words one other p q =
-    let both = sym p.spelled ∙ q.spelled in
-    let pointers : decimal one.pointers ≡ decimal other.pointers = cc in
-    let lines : decimal one.lines ≡ decimal other.lines = cc in
-    let domain : one.domain ≡ other.domain = cc in
-    let instances : one.instances ≡ other.instances = cc in
-    λ i. record {
-      pointers = decimal_injective one.pointers other.pointers (omega (arith, p.limits.few_pointers)) (omega (arith, q.limits.few_pointers)) pointers i;
-      lines = decimal_injective one.lines other.lines (omega (arith, p.limits.few_lines)) (omega (arith, q.limits.few_lines)) lines i;
-      domain = domain i;
-      instances = instances i;
-    }
+    both : (r s : Result Reply Reply) → report_due machine limit program r → report_due machine limit program s → r ≡ s
+    both (Ok x) (Ok y) p q = ap Ok (p.2 ∙ ap reply_with (same_report (meaning_of machine) (meaning_of machine).ops program limit whole.is_partial p.0 q.0 p.1 q.1) ∙ sym q.2)
+    both (Ok x) (Err y) p q = absurd q
+    both (Err x) s p q = absurd p
+
+-- the texts of the operations of a machine that was made are names
+machine_named : (files : Files) (inputs : Inputs) (pointers : ℕ) → 0 < pointers → pointers ≤ MAX_POINTERS → (machine : MachineParts) → machine_due files inputs pointers (Ok machine) → AreNames (operation_texts machine.task machine.pointers)
+machine_named files inputs pointers some few machine made =
+    let held = machine_held files inputs pointers machine made in
+    subst (λ (m : MachineParts). AreNames (operation_texts m.task m.pointers)) (sym held.is) (operations-named held.posed.task pointers held.is_task some few held.few)
+
+job_decided : (files : Files) (job : Job) → IsJob job → IsDecided (job_due files job)
+job_decided files (Synth job) is =
+    then_decided (machine_decided files job.inputs job.pointers) (λ machine made.
+    answer_decided machine job.lines)
+job_decided files (Run job) is =
+    then_decided (machine_decided files job.inputs job.pointers) (λ machine made.
+    then_decided (file_decided files job.program) (λ bytes read.
+    then_decided (tell_decided job.program (program_definite (operation_texts machine.task machine.pointers) bytes (machine_named files job.inputs job.pointers is.some_pointers is.few_pointers machine made))) (λ program reads.
+    report_decided machine job.run program (program_over machine bytes program reads))))
 
 abbrev reply_of : Result Reply Reply → Reply
 reply_of (Ok reply) = reply
@@ -184,8 +218,8 @@ reply_of (Err reply) = reply
 
 -- what the words' job comes to is all that is due
 is_due : (words : List (List ℕ)) (files : Files) (job : Job) (r : Result Reply Reply) (other : Reply) → JobOf words job → job_due files job r → Due words files other → reply_of r ≡ other
-is_due words files job r other is here (answer same same_is there) = ap reply_of ((job_decided files job).one r (Ok other) here (subst (λ (j : Job). job_due files j (Ok other)) (JobOf-unique words same job same_is is) there))
-is_due words files job r other is here (fault same same_is there) = ap reply_of ((job_decided files job).one r (Err other) here (subst (λ (j : Job). job_due files j (Err other)) (JobOf-unique words same job same_is is) there))
+is_due words files job r other is here (answer same same_is there) = ap reply_of ((job_decided files job (job_kept words job is)).one r (Ok other) here (subst (λ (j : Job). job_due files j (Ok other)) (JobOf-unique words same job same_is is) there))
+is_due words files job r other is here (fault same same_is there) = ap reply_of ((job_decided files job (job_kept words job is)).one r (Err other) here (subst (λ (j : Job). job_due files j (Err other)) (JobOf-unique words same job same_is is) there))
 is_due words files job r _ is here (usage none) = absurd (none job is)
 
 pub Due-unique : (words : List (List ℕ)) (files : Files) (one other : Reply) → Due words files one → Due words files other → one ≡ other

@@ -26,7 +26,7 @@ IsReplyStatus ReadFault = ⊥
 IsReplyStatus WriteFault = ⊥
 IsReplyStatus OutOfMemory = ⊥
 
--- the status of a search's answer
+-- the status of an answer
 abbrev pub IsVerdict : Status → Type 0
 IsVerdict Done = Unit {0}
 IsVerdict No = Unit {0}

@@ -1,12 +1,15 @@
 -- What is due for the words of a command and the files: one status and one text.
-use Rattle.std.specs.Prelude.{◌≡◌, ℕ, List, [], ◌∷◌, Result, Ok, Err}
+use Rattle.std.specs.Prelude.{◌≡◌, ℕ, Bool, if◌then◌else◌, List, [], ◌∷◌, Result, Ok, Err}
 use Rattle.bfgp_outside.specs.Shelf.{Files}
 use Rattle.bfgp_outside.specs.Whole.{whole_of}
 use Rattle.bfgp_outside.specs.declared.whole.ReadRefusal.{ReadRefusal}
 use Rattle.pddl_parser.specs.Replies.{IsDomainReply, IsProblemReply}
-use Rattle.ground_state.specs.declared.parts.TaskParts.{TaskParts}
 use Rattle.ground_state.specs.Ground.{Ground}
-use Rattle.pointer_machine.specs.Meaning.{meaning}
+use Rattle.program_model.specs.Program.{Program}
+use Rattle.program_text.specs.Reading.{Reads}
+use Rattle.instance_report.specs.declared.answer.Report.{Report}
+use Rattle.instance_report.specs.Report.{IsReport}
+use Rattle.pointer_machine.specs.Machine.{MachineParts, meaning_of}
 use Rattle.pointer_machine.specs.Texts.{operation_texts}
 use Rattle.synthesis.specs.declared.limits.TheConstants.{BUDGET, RUN_LIMIT}
 use Rattle.synthesis.specs.declared.evidence.Answer.{Answer}
@@ -17,12 +20,16 @@ use Rattle.synthesis.specs.Answers.{IsAnswer}
 use Rattle.bfgp_tool.specs.Grounding.{IsGroundReply, IsCountReply}
 use Rattle.bfgp_tool.specs.declared.input.TheConstants.{MAX_INPUT_BYTES}
 use Rattle.bfgp_tool.specs.declared.job.Job.{Job}
+use Rattle.bfgp_tool.specs.declared.job.Job.TheVariants.{Synth, Run}
+use Rattle.bfgp_tool.specs.declared.job.Inputs.{Inputs}
+use Rattle.bfgp_tool.specs.declared.job.SynthJob.{SynthJob}
+use Rattle.bfgp_tool.specs.declared.job.RunJob.{RunJob}
 use Rattle.bfgp_tool.specs.declared.domain_reading.Domain.{Domain}
 use Rattle.bfgp_tool.specs.declared.reply.Reply.{Reply}
 use Rattle.bfgp_tool.specs.declared.status.Status.{Status}
 use Rattle.bfgp_tool.specs.declared.status.Status.TheVariants.{Done, No, Usage, SpentExpansions, SpentRun}
 use Rattle.bfgp_tool.specs.Words.{JobOf, usage_text}
-use Rattle.bfgp_tool.specs.Faults.{reading_fault, parsing_fault, task_fault, ground_fault, machine_fault}
+use Rattle.bfgp_tool.specs.Faults.{reading_fault, parsing_fault, task_fault, ground_fault, machine_fault, program_fault}
 use Rattle.bfgp_tool.specs.Steps.{◌>>=◌, pure, or_tell}
 use Rattle.pddl_task.specs.Replies.{IsTaskReply, IsInstanceReply}
 use Rattle.bfgp_tool.specs.Document.{document}
@@ -58,6 +65,16 @@ tables_due files domain (name ∷ names) = do
   tables ← tables_due files domain names
   pure (table ∷ tables)
 
+-- the machine over inputs and so many pointers: all of the domain file first, then the instance files in order, then the
+-- operations are counted
+abbrev pub machine_due : Files → Inputs → ℕ → Result MachineParts Reply → Type 0
+machine_due files inputs pointers = do
+  bytes ← file_due files inputs.domain
+  domain ← domain_due inputs.domain bytes
+  tables ← tables_due files domain inputs.instances
+  counted ← or_tell inputs.domain machine_fault (IsCountReply domain.task pointers)
+  pure (record { task = domain.task; tables = tables; pointers = pointers })
+
 -- the status of an answer, by its outcome
 abbrev pub status_of : Outcome → Status
 status_of (outcomes.Program size) = Done
@@ -65,23 +82,42 @@ status_of outcomes.Nothing = No
 status_of (outcomes.SpentExpansions size) = SpentExpansions
 status_of (outcomes.SpentRun size t) = SpentRun
 
--- the reply is the document of the search's answer, over the instances of these tables
-abbrev pub answer_due : TaskParts → List Ground → ℕ → ℕ → Result Reply Reply → Type 0
-answer_due task tables pointers lines (Ok reply) = (answer : Answer) × IsAnswer (plain (meaning task tables pointers) RUN_LIMIT) BUDGET lines answer × (reply ≡ record { status = status_of answer.outcome; text = document (operation_texts task pointers) answer })
-answer_due task tables pointers lines (Err reply) = ⊥
+-- the reply is the document of the search's answer
+abbrev pub answer_due : MachineParts → ℕ → Result Reply Reply → Type 0
+answer_due machine lines (Ok reply) = (answer : Answer) × IsAnswer (plain (meaning_of machine) RUN_LIMIT) BUDGET lines answer × (reply ≡ record { status = status_of answer.outcome; text = document (operation_texts machine.task machine.pointers) answer })
+answer_due machine lines (Err reply) = ⊥
 
--- `synth`: all of the domain file first, then the instance files in order, then the operations are counted
-abbrev pub synth_due : Files → Job → Result Reply Reply → Type 0
+-- `synth`: the machine, and then the search
+abbrev pub synth_due : Files → SynthJob → Result Reply Reply → Type 0
 synth_due files job = do
-  bytes ← file_due files job.domain
-  domain ← domain_due job.domain bytes
-  tables ← tables_due files domain job.instances
-  counted ← or_tell job.domain machine_fault (IsCountReply domain.task job.pointers)
-  answer_due domain.task tables job.pointers job.lines
+  machine ← machine_due files job.inputs job.pointers
+  answer_due machine job.lines
+
+-- the bytes of a program file are read, over the operations of a machine
+abbrev pub program_due : MachineParts → List ℕ → List ℕ → Result Program Reply → Type 0
+program_due machine name bytes = or_tell name program_fault (Reads (operation_texts machine.task machine.pointers) bytes)
+
+-- the status of a report
+abbrev pub report_status : Bool → Status
+report_status all_solved = if all_solved then Done else No
+
+-- the reply is the report of a program's runs
+abbrev pub report_due : MachineParts → ℕ → Program → Result Reply Reply → Type 0
+report_due machine limit program (Ok reply) = (report : Report) × IsReport (meaning_of machine) program limit report × (reply ≡ record { status = report_status report.all_solved; text = report.text })
+report_due machine limit program (Err reply) = ⊥
+
+-- `run`: the machine, then all of the program file, and then its runs
+abbrev pub run_due : Files → RunJob → Result Reply Reply → Type 0
+run_due files job = do
+  machine ← machine_due files job.inputs job.pointers
+  bytes ← file_due files job.program
+  program ← program_due machine job.program bytes
+  report_due machine job.run program
 
 -- what is due for a job, by its command
 abbrev pub job_due : Files → Job → Result Reply Reply → Type 0
-job_due files job = synth_due files job
+job_due files (Synth job) = synth_due files job
+job_due files (Run job) = run_due files job
 
 abbrev pub usage_reply : Reply
 usage_reply = record { status = Usage; text = usage_text }

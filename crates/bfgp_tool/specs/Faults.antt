@@ -13,8 +13,10 @@ use Rattle.ground_state.specs.declared.refusal.GroundRefusal.{GroundRefusal}
 use Rattle.ground_state.specs.declared.refusal.GroundRefusal.TheVariants as grounded
 use Rattle.pointer_machine.specs.declared.refusal.MachineRefusal.{MachineRefusal}
 use Rattle.pointer_machine.specs.declared.refusal.MachineRefusal.TheVariants as made
+use Rattle.program_text.specs.declared.refusal.ProgramRefusal.{ProgramRefusal}
+use Rattle.program_text.specs.declared.refusal.ProgramRefusal.TheVariants as programs
 use Rattle.bfgp_tool.specs.declared.fault.Fault.{Fault}
-use Rattle.bfgp_tool.specs.declared.fault.Fault.TheVariants.{Absent, TooLong, Byte, Unclosed, Unopened, TooDeep, Shape, Unsupported, Unknown, Twice, Arity, TypeCycle, OtherDomain, NoObject, Limit, Atoms, Operations}
+use Rattle.bfgp_tool.specs.declared.fault.Fault.TheVariants.{Absent, TooLong, Byte, Unclosed, Unopened, TooDeep, Shape, Unsupported, Unknown, Twice, Arity, TypeCycle, OtherDomain, NoObject, Limit, Atoms, Operations, ProgramTooLong, NoEnd, Line}
 use Rattle.bfgp_tool.specs.declared.reply.Reply.{Reply}
 use Rattle.bfgp_tool.specs.declared.reply.Halt.{Halt}
 use Rattle.bfgp_tool.specs.declared.reply.Halt.TheVariants.{Early, ReadFault, OutOfMemory}
@@ -45,6 +47,9 @@ fault_text NoObject = codes "no object"
 fault_text (Limit which count) = codes "limit " ++ limit_text which ++ codes " " ++ decimal count
 fault_text (Atoms count) = codes "atoms " ++ decimal count
 fault_text (Operations count) = codes "operations " ++ decimal count
+fault_text (ProgramTooLong count) = codes "program too long " ++ decimal count
+fault_text NoEnd = codes "no end"
+fault_text (Line number) = codes "line " ++ decimal number
 
 -- the line for a fault of the file with this name
 abbrev pub fault_line : List ℕ → Fault → List ℕ
@@ -88,6 +93,12 @@ ground_fault grounded.OutOfMemory = None
 abbrev pub machine_fault : MachineRefusal → Option Fault
 machine_fault (made.TooManyOps count) = Some (Operations count)
 machine_fault made.OutOfMemory = None
+
+abbrev pub program_fault : ProgramRefusal → Option Fault
+program_fault (programs.TooLong count) = Some (ProgramTooLong count)
+program_fault programs.NoEnd = Some NoEnd
+program_fault (programs.Line number) = Some (Line number)
+program_fault programs.OutOfMemory = None
 
 -- the reply tells the fault that a refusal is
 abbrev pub Tells : {E : Type 0} → (E → Option Fault) → List ℕ → E → Reply → Type 0

@@ -1,5 +1,5 @@
 -- The headline, in the words of planning.
-use Rattle.std.specs.Prelude.{◌≡◌, ◌+◌, ◌<◌, ◌≤◌, ℕ, List, map, length, slice_get, All, Option, Some, None}
+use Rattle.std.specs.Prelude.{◌≡◌, ◌+◌, ◌<◌, ◌≤◌, ℕ, List, map, length, slice_get, All, Option, Some, None, Ok}
 use Rattle.std.specs.List.{AllZip}
 use Rattle.bfgp_outside.specs.Shelf.{Files}
 use Rattle.bfgp_outside.specs.Sink.{Appends}
@@ -21,7 +21,12 @@ use Rattle.synthesis.specs.declared.evidence.Answer.{Answer}
 use Rattle.synthesis.specs.declared.evidence.Outcome.TheVariants as outcomes
 use Rattle.synthesis.specs.Search.{plain}
 use Rattle.synthesis.specs.Answers.{IsAnswer}
+use Rattle.program_text.specs.Reading.{Reads}
 use Rattle.bfgp_tool.specs.declared.job.Job.{Job}
+use Rattle.bfgp_tool.specs.declared.job.Job.TheVariants.{Synth, Run}
+use Rattle.bfgp_tool.specs.declared.job.Inputs.{Inputs}
+use Rattle.bfgp_tool.specs.declared.job.SynthJob.{SynthJob}
+use Rattle.bfgp_tool.specs.declared.job.RunJob.{RunJob}
 use Rattle.bfgp_tool.specs.declared.status.Status.{Status}
 use Rattle.bfgp_tool.specs.declared.status.Status.TheVariants.{Done, No}
 use Rattle.bfgp_tool.specs.Words.{JobOf}
@@ -36,18 +41,16 @@ pub record HoldsInstance (files : Files) (domain : DomainText) (name : List ℕ)
   pub reads : HasProblem bytes problem
   pub instance_is : InstanceOf domain problem instance
 
--- the words name a domain file and instance files, and these hold the texts of a task and of instances of it
-pub record Poses (words : List (List ℕ)) (files : Files) : Type 0 where
-  pub job : Job
-  pub job_is : JobOf words job
+-- the inputs are files that hold the texts of a task and of instances of it
+pub record Poses (inputs : Inputs) (files : Files) : Type 0 where
   pub domain_bytes : List ℕ
-  pub domain_held : files job.domain ≡ Some domain_bytes
+  pub domain_held : files inputs.domain ≡ Some domain_bytes
   pub domain : DomainText
   pub domain_reads : HasDomain domain_bytes domain
   pub task : TaskParts
   pub task_is : TaskOf domain task
   pub instances : List InstanceParts
-  pub instances_are : AllZip (HoldsInstance files domain) job.instances instances
+  pub instances_are : AllZip (HoldsInstance files domain) inputs.instances instances
 
 -- the machine over these instances and so many pointers
 abbrev pub machine_of : TaskParts → List InstanceParts → ℕ → Semantics Pointing
@@ -76,34 +79,53 @@ IsProgramOver task pointers program = IsProgram (length (operations task pointer
 
 -- what was written is the document of the search's answer, with a program of at most as many lines as were asked for, which
 -- solves every instance after as many steps as are told, and no program with fewer lines over the same pointers does
-pub record FindsLeast (words : List (List ℕ)) (files : Files) (old new : Option (List ℕ)) : Type 0 where
-  pub posed : Poses words files
+pub record FindsLeast (job : SynthJob) (files : Files) (old new : Option (List ℕ)) : Type 0 where
+  pub posed : Poses job.inputs files
   pub program : Program
-  pub is_program : IsProgramOver posed.task posed.job.pointers program
-  pub at_most : length program ≤ posed.job.lines
-  pub solves : SolvesEach posed.task posed.instances posed.job.pointers program
-  pub least : (other : Program) → IsProgramOver posed.task posed.job.pointers other → length other < length program → SolvesEach posed.task posed.instances posed.job.pointers other → ⊥
+  pub is_program : IsProgramOver posed.task job.pointers program
+  pub at_most : length program ≤ job.lines
+  pub solves : SolvesEach posed.task posed.instances job.pointers program
+  pub least : (other : Program) → IsProgramOver posed.task job.pointers other → length other < length program → SolvesEach posed.task posed.instances job.pointers other → ⊥
   pub answer : Answer
   pub found : answer.outcome ≡ outcomes.Program (length program)
   pub given : answer.program ≡ Some program
-  pub ends : AreEndsInGoal posed.task posed.instances posed.job.pointers program answer.ends
-  pub searched : IsAnswer (plain (machine_of posed.task posed.instances posed.job.pointers) RUN_LIMIT) BUDGET posed.job.lines answer
-  pub written : Appends old new (document (operation_texts posed.task posed.job.pointers) answer)
+  pub ends : AreEndsInGoal posed.task posed.instances job.pointers program answer.ends
+  pub searched : IsAnswer (plain (machine_of posed.task posed.instances job.pointers) RUN_LIMIT) BUDGET job.lines answer
+  pub written : Appends old new (document (operation_texts posed.task job.pointers) answer)
 
 -- what was written is the document of the search's answer, with the verdict that there is none, and no program of at most as
 -- many lines as were asked for solves every instance
-pub record RefutesAll (words : List (List ℕ)) (files : Files) (old new : Option (List ℕ)) : Type 0 where
-  pub posed : Poses words files
-  pub none : (program : Program) → IsProgramOver posed.task posed.job.pointers program → length program ≤ posed.job.lines → SolvesEach posed.task posed.instances posed.job.pointers program → ⊥
+pub record RefutesAll (job : SynthJob) (files : Files) (old new : Option (List ℕ)) : Type 0 where
+  pub posed : Poses job.inputs files
+  pub none : (program : Program) → IsProgramOver posed.task job.pointers program → length program ≤ job.lines → SolvesEach posed.task posed.instances job.pointers program → ⊥
   pub answer : Answer
   pub nothing : answer.outcome ≡ outcomes.Nothing
   pub no_program : answer.program ≡ None
-  pub searched : IsAnswer (plain (machine_of posed.task posed.instances posed.job.pointers) RUN_LIMIT) BUDGET posed.job.lines answer
-  pub written : Appends old new (document (operation_texts posed.task posed.job.pointers) answer)
+  pub searched : IsAnswer (plain (machine_of posed.task posed.instances job.pointers) RUN_LIMIT) BUDGET job.lines answer
+  pub written : Appends old new (document (operation_texts posed.task job.pointers) answer)
 
--- with status 0 the written program solves and none with fewer lines does; with status 1 no program of at most as many lines
--- as were asked for does
+-- the program that the program file holds solves every instance
+pub record ProgramSolves (job : RunJob) (files : Files) : Type 0 where
+  pub posed : Poses job.inputs files
+  pub bytes : List ℕ
+  pub held : files job.program ≡ Some bytes
+  pub program : Program
+  pub reads : Reads (operation_texts posed.task job.pointers) bytes (Ok program)
+  pub solves : SolvesEach posed.task posed.instances job.pointers program
+
+-- status 0 of `synth` says that the written program solves and none with fewer lines does, and status 0 of `run` that the given
+-- program solves
+abbrev pub Succeeds : Job → Files → Option (List ℕ) → Option (List ℕ) → Type 0
+Succeeds (Synth job) files old new = FindsLeast job files old new
+Succeeds (Run job) files old new = ProgramSolves job files
+
+-- status 1 of `synth` says that no program of at most as many lines as were asked for solves
+abbrev pub Refutes : Job → Files → Option (List ℕ) → Option (List ℕ) → Type 0
+Refutes (Synth job) files old new = RefutesAll job files old new
+Refutes (Run job) files old new = Unit {0}
+
+-- with status 0 and with status 1 the words are a job, and this is so of it
 abbrev pub Headline : List (List ℕ) → Files → Status → Option (List ℕ) → Option (List ℕ) → Type 0
-Headline words files Done old new = FindsLeast words files old new
-Headline words files No old new = RefutesAll words files old new
+Headline words files Done old new = (job : Job) × JobOf words job × Succeeds job files old new
+Headline words files No old new = (job : Job) × JobOf words job × Refutes job files old new
 Headline words files _ old new = Unit {0}

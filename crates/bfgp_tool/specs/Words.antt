@@ -3,8 +3,15 @@ use Rattle.std.specs.Prelude.{◌≡◌, ℕ, ◌<◌, ◌≤◌, Bool, false, n
 use Rattle.std.specs.Prelude.{Ok, Err}
 use Rattle.flag_rules.specs.Line.{lines_of}
 use Rattle.program_model.specs.declared.machine.TheConstants.{MAX_INSTANCES, MAX_POINTERS}
-use Rattle.bfgp_tool.specs.declared.job.TheConstants.{MAX_LINES_ASKED}
+use Rattle.interpreter.specs.declared.plain_run.TheConstants.{MAX_RUN}
+use Rattle.synthesis.specs.declared.limits.TheConstants.{RUN_LIMIT}
+use Rattle.bfgp_tool.specs.declared.job.TheConstants.{LEAST_RUN, MAX_LINES_ASKED}
 use Rattle.bfgp_tool.specs.declared.job.Job.{Job}
+use Rattle.bfgp_tool.specs.declared.job.Job.TheVariants.{Synth, Run}
+use Rattle.bfgp_tool.specs.declared.job.Inputs.{Inputs}
+use Rattle.bfgp_tool.specs.declared.job.SynthJob.{SynthJob}
+use Rattle.bfgp_tool.specs.declared.job.RunJob.{RunJob}
+use Rattle.bfgp_tool.specs.declared.job.Limited.{Limited}
 use Rattle.bfgp_tool.specs.declared.job.JobRefusal.{JobRefusal}
 use Rattle.bfgp_tool.specs.declared.job.JobRefusal.TheVariants.{Usage, OutOfMemory}
 
@@ -13,27 +20,78 @@ abbrev pub is_file_name : List ℕ → Bool
 is_file_name [] = false
 is_file_name (first ∷ _) = not (first == 45)
 
--- the numbers of a job are within their limits
-pub record KeepsLimits (job : Job) : Type 0 where
+-- the names of input files, as they stand among the words
+abbrev pub names_of : Inputs → List (List ℕ)
+names_of inputs = inputs.domain ∷ inputs.instances
+
+-- the names are those of files, and there are neither too few nor too many instances
+pub record AreInputs (inputs : Inputs) : Type 0 where
+  pub domain : IsTrue (is_file_name inputs.domain)
+  pub instances : All (λ name. IsTrue (is_file_name name)) inputs.instances
+  pub some_instances : 0 < length inputs.instances
+  pub few_instances : length inputs.instances ≤ MAX_INSTANCES
+
+-- the words are the names of these files
+pub record AreInputsOf (words : List (List ℕ)) (inputs : Inputs) : Type 0 where
+  pub spelled : words ≡ names_of inputs
+  pub are_inputs : AreInputs inputs
+
+-- the numbers of a search are within their limits
+pub record IsSynthJob (job : SynthJob) : Type 0 where
   pub some_pointers : 0 < job.pointers
   pub few_pointers : job.pointers ≤ MAX_POINTERS
   pub some_lines : 0 < job.lines
   pub few_lines : job.lines ≤ MAX_LINES_ASKED
-  pub some_instances : 0 < length job.instances
-  pub few_instances : length job.instances ≤ MAX_INSTANCES
+  pub inputs : AreInputs job.inputs
 
--- the words are those of the job: so far `synth` over some pointers, lines and instances, with the options in this order
-pub record JobOf (words : List (List ℕ)) (job : Job) : Type 0 where
-  pub spelled : words ≡ codes "synth" ∷ codes "--pointers" ∷ decimal job.pointers ∷ codes "--lines" ∷ decimal job.lines ∷ job.domain ∷ job.instances
-  pub limits : KeepsLimits job
-  pub domain : IsTrue (is_file_name job.domain)
-  pub instances : All (λ name. IsTrue (is_file_name name)) job.instances
+-- the numbers of a run are within their limits
+pub record IsRunJob (job : RunJob) : Type 0 where
+  pub some_pointers : 0 < job.pointers
+  pub few_pointers : job.pointers ≤ MAX_POINTERS
+  pub least_run : LEAST_RUN ≤ job.run
+  pub most_run : job.run ≤ MAX_RUN
+  pub program : IsTrue (is_file_name job.program)
+  pub inputs : AreInputs job.inputs
 
--- what reading the words may answer: their job, or that they are none
-abbrev pub IsJobReply : List (List ℕ) → Result Job JobRefusal → Type 0
-IsJobReply words (Ok job) = JobOf words job
-IsJobReply words (Err Usage) = (job : Job) → JobOf words job → ⊥
-IsJobReply words (Err OutOfMemory) = Unit {0}
+abbrev pub IsJob : Job → Type 0
+IsJob (Synth job) = IsSynthJob job
+IsJob (Run job) = IsRunJob job
+
+-- the words after `synth`: some pointers, lines and inputs, with the options in this order
+pub record SynthJobOf (words : List (List ℕ)) (job : SynthJob) : Type 0 where
+  pub spelled : words ≡ codes "--pointers" ∷ decimal job.pointers ∷ codes "--lines" ∷ decimal job.lines ∷ names_of job.inputs
+  pub is_job : IsSynthJob job
+
+-- a limit of steps and inputs: the limit is told by an option, or it is the one that is taken without
+pub data TellsLimit (words : List (List ℕ)) (limited : Limited) : Type 0 where
+  told : words ≡ codes "--run" ∷ decimal limited.run ∷ names_of limited.inputs → TellsLimit words limited
+  untold : words ≡ names_of limited.inputs → limited.run ≡ RUN_LIMIT → TellsLimit words limited
+
+-- the words tell inputs and a limit of steps
+pub record AreLimited (words : List (List ℕ)) (limited : Limited) : Type 0 where
+  pub told : TellsLimit words limited
+  pub least_run : LEAST_RUN ≤ limited.run
+  pub most_run : limited.run ≤ MAX_RUN
+  pub are_inputs : AreInputs limited.inputs
+
+-- the words after `run`: some pointers, a program, maybe a limit of steps, and inputs, with the options in this order
+pub record RunJobOf (words : List (List ℕ)) (job : RunJob) : Type 0 where
+  pub others : List (List ℕ)
+  pub spelled : words ≡ codes "--pointers" ∷ decimal job.pointers ∷ codes "--program" ∷ job.program ∷ others
+  pub limit : TellsLimit others (record { run = job.run; inputs = job.inputs })
+  pub is_job : IsRunJob job
+
+-- the words are those of the job: its command first
+abbrev pub JobOf : List (List ℕ) → Job → Type 0
+JobOf [] job = ⊥
+JobOf (command ∷ words) (Synth job) = (command ≡ codes "synth") × SynthJobOf words job
+JobOf (command ∷ words) (Run job) = (command ≡ codes "run") × RunJobOf words job
+
+-- what reading words may answer: what they spell, or that they spell nothing
+abbrev pub IsReading : {A : Type 0} → (A → Type 0) → Result A JobRefusal → Type 0
+IsReading Spells (Ok a) = Spells a
+IsReading {A} Spells (Err Usage) = (a : A) → Spells a → ⊥
+IsReading Spells (Err OutOfMemory) = Unit {0}
 
 abbrev pub usage_text : List ℕ
 usage_text = lines_of (

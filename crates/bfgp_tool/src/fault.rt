@@ -8,6 +8,7 @@ use ground_state::GroundRefusal;
 use pddl_parser::ParseRefusal;
 use pddl_task::{TaskRefusal, Which};
 use pointer_machine::MachineRefusal;
+use program_text::ProgramRefusal;
 use std::alloc::Global;
 use std::fmt;
 
@@ -48,10 +49,16 @@ pub enum Fault {
     Atoms(u64),
     /// The domain has this many operations over the pointers, which is more than the limit.
     Operations(u64),
+    /// The program has this many instruction lines, which is more than the limit.
+    ProgramTooLong(u32),
+    /// The program has no instruction line, or its last one is not `end`.
+    NoEnd,
+    /// The line of this number, from 1, is the first instruction line of the program that may not stand at its place.
+    Line(u32),
 }
 
 impl Fault {
-    ghost use Rattle.bfgp_tool.specs.Faults.{parsing_fault, task_fault, ground_fault, machine_fault};
+    ghost use Rattle.bfgp_tool.specs.Faults.{parsing_fault, task_fault, ground_fault, machine_fault, program_fault};
 
     /// The fault that a refusal of a text is, unless it is for want of memory.
     pub fn of_text(refusal: ParseRefusal) -> Option<Fault>
@@ -103,6 +110,18 @@ impl Fault {
             MachineRefusal::OutOfMemory => None,
         }
     }
+
+    /// The fault that a refusal of a program text is, unless it is for want of memory.
+    pub fn of_program(refusal: ProgramRefusal) -> Option<Fault>
+        ensures { result ≡ program_fault refusal }
+    {
+        match refusal {
+            ProgramRefusal::TooLong(count) => Some(Fault::ProgramTooLong(count)),
+            ProgramRefusal::NoEnd => Some(Fault::NoEnd),
+            ProgramRefusal::Line(number) => Some(Fault::Line(number)),
+            ProgramRefusal::OutOfMemory => None,
+        }
+    }
 }
 
 impl fmt::Display for Fault {
@@ -132,6 +151,9 @@ impl fmt::Display for Fault {
             Fault::Limit(Which::Objects, count) => write!(f, "limit objects {count}"),
             Fault::Atoms(count) => write!(f, "atoms {count}"),
             Fault::Operations(count) => write!(f, "operations {count}"),
+            Fault::ProgramTooLong(count) => write!(f, "program too long {count}"),
+            Fault::NoEnd => f.write_str("no end"),
+            Fault::Line(number) => write!(f, "line {number}"),
         }
     }
 }

@@ -1,23 +1,55 @@
-ghost use Rattle.std.specs.Prelude.{◌≡◌, ◌≢◌, ◌↔◌, ℕ, ◌<◌, ◌≤◌, IsTrue, IfOk, IfSome, IfNone, All, length, map, string_bytes, codes, decimal};
+ghost use Rattle.std.specs.Prelude.{◌≡◌, ◌↔◌, ◌<◌, ◌≤◌, IsTrue, IfOk, All, length, map, string_bytes};
 ghost use Rattle.program_model.specs.declared.machine.TheConstants.{MAX_INSTANCES};
-ghost use Rattle.bfgp_tool.specs.Words.{IsJobReply, is_file_name};
+ghost use Rattle.bfgp_tool.specs.Words.{IsReading, JobOf, SynthJobOf, RunJobOf, AreLimited, AreInputsOf, is_file_name};
 
+use crate::number::number_of;
 use flag_rules::{List, OutOfMemory, Text};
+use interpreter::MAX_RUN;
 use program_model::{MAX_INSTANCES, MAX_POINTERS};
 use std::alloc::Global;
+use synthesis::RUN_LIMIT;
 use thiserror::Error;
 
 /// The greatest number of lines that `synth` takes so far.
 pub const MAX_LINES_ASKED: u8 = 3;
 
-/// What the words of a command ask for. So far `synth` is the only command: it searches for a smallest program that
-/// solves all instances.
+/// The least limit of steps that `run` takes.
+pub const LEAST_RUN: u64 = 4;
+
+/// What the words of a command ask for.
 #[derive(Debug, Drop)]
-pub struct Job {
+pub enum Job {
+    /// To search for a smallest program that solves all instances.
+    Synth(SynthJob),
+    /// To run a program on all instances.
+    Run(RunJob),
+}
+
+/// A search for a smallest program.
+#[derive(Debug, Drop)]
+pub struct SynthJob {
     /// How many pointers programs have, from 1 to `MAX_POINTERS`.
     pub pointers: u8,
     /// How many lines programs have at most, from 1 to `MAX_LINES_ASKED`.
     pub lines: u8,
+    pub inputs: Inputs,
+}
+
+/// The runs of a program.
+#[derive(Debug, Drop)]
+pub struct RunJob {
+    /// How many pointers the program has, from 1 to `MAX_POINTERS`.
+    pub pointers: u8,
+    /// How many steps a run has at most, from `LEAST_RUN` to `MAX_RUN`.
+    pub run: u64,
+    /// The name of the program file.
+    pub program: Text,
+    pub inputs: Inputs,
+}
+
+/// The names of the files that pose the instances.
+#[derive(Debug, Drop)]
+pub struct Inputs {
     /// The name of the domain file.
     pub domain: Text,
     /// The names of the instance files, from 1 to `MAX_INSTANCES`.
@@ -45,44 +77,119 @@ impl From<OutOfMemory> for JobRefusal {
 
 /// Reads the words of a command, without the program's own name.
 pub fn job_of(alloc: Global, words: &[String]) -> Result<Job, JobRefusal>
-    ensures { IsJobReply (map string_bytes words.now) result }
+    ensures { IsReading (JobOf (map string_bytes words.now)) result }
+{
+    let [command, words @ ..] = words else {
+        return Err(JobRefusal::Usage);
+    };
+    if command.as_str() == "synth" {
+        Ok(Job::Synth(synth_job_of(alloc, words)?))
+    } else if command.as_str() == "run" {
+        Ok(Job::Run(run_job_of(alloc, words)?))
+    } else {
+        Err(JobRefusal::Usage)
+    }
+}
+
+// Reads the words after `synth`.
+fn synth_job_of(alloc: Global, words: &[String]) -> Result<SynthJob, JobRefusal>
+    ensures { IsReading (SynthJobOf (map string_bytes words.now)) result }
+{
+    let [pointers_option, pointers, lines_option, lines, inputs @ ..] = words else {
+        return Err(JobRefusal::Usage);
+    };
+    if pointers_option.as_str() != "--pointers" || lines_option.as_str() != "--lines" {
+        return Err(JobRefusal::Usage);
+    }
+    let Some(pointers) = number_of(pointers, 1, u64::from(MAX_POINTERS)) else {
+        return Err(JobRefusal::Usage);
+    };
+    let Some(lines) = number_of(lines, 1, u64::from(MAX_LINES_ASKED)) else {
+        return Err(JobRefusal::Usage);
+    };
+    let inputs = inputs_of(alloc, inputs)?;
+    Ok(SynthJob {
+        pointers: pointers as u8,
+        lines: lines as u8,
+        inputs,
+    })
+}
+
+// Reads the words after `run`.
+fn run_job_of(alloc: Global, words: &[String]) -> Result<RunJob, JobRefusal>
+    ensures { IsReading (RunJobOf (map string_bytes words.now)) result }
 {
     let [
-        command,
         pointers_option,
         pointers,
-        lines_option,
-        lines,
-        domain,
-        instances @ ..,
+        program_option,
+        program,
+        others @ ..,
     ] = words
     else {
         return Err(JobRefusal::Usage);
     };
-    if !is_synth(command, pointers_option, lines_option) || !are_file_names(domain, instances) {
+    if pointers_option.as_str() != "--pointers" || program_option.as_str() != "--program" {
         return Err(JobRefusal::Usage);
     }
-    let Some(pointers) = number_of(pointers, MAX_POINTERS) else {
+    let Some(pointers) = number_of(pointers, 1, u64::from(MAX_POINTERS)) else {
         return Err(JobRefusal::Usage);
     };
-    let Some(lines) = number_of(lines, MAX_LINES_ASKED) else {
+    if !is_file_name(program.as_bytes()) {
         return Err(JobRefusal::Usage);
-    };
-    Ok(Job {
-        pointers,
-        lines,
-        domain: Text::of(alloc, domain.as_bytes())?,
-        instances: texts_of(alloc, instances)?,
+    }
+    let limited = limited_of(alloc, others)?;
+    Ok(RunJob {
+        pointers: pointers as u8,
+        run: limited.run,
+        program: Text::of(alloc, program.as_bytes())?,
+        inputs: limited.inputs,
     })
 }
 
-// Whether the command and the names of the options are those of `synth`.
-fn is_synth(command: &String, pointers: &String, lines: &String) -> bool
-    ensures { IsTrue result ↔ ((string_bytes command.now ≡ codes "synth")
-        × (string_bytes pointers.now ≡ codes "--pointers")
-        × (string_bytes lines.now ≡ codes "--lines")) }
+/// Inputs, and how many steps a run over them has at most.
+#[derive(Debug, Drop)]
+struct Limited {
+    run: u64,
+    inputs: Inputs,
+}
+
+// Reads the words after the program of `run`: an option with a limit of steps, which may be left out, and inputs.
+fn limited_of(alloc: Global, words: &[String]) -> Result<Limited, JobRefusal>
+    ensures { IsReading (AreLimited (map string_bytes words.now)) result }
 {
-    command.as_str() == "synth" && pointers.as_str() == "--pointers" && lines.as_str() == "--lines"
+    match words {
+        [option, run, inputs @ ..] if option.as_str() == "--run" => {
+            let Some(run) = number_of(run, LEAST_RUN, MAX_RUN) else {
+                return Err(JobRefusal::Usage);
+            };
+            let inputs = inputs_of(alloc, inputs)?;
+            Ok(Limited { run, inputs })
+        }
+        _ => {
+            let inputs = inputs_of(alloc, words)?;
+            Ok(Limited {
+                run: RUN_LIMIT,
+                inputs,
+            })
+        }
+    }
+}
+
+// Reads the names of a domain file and of from 1 to `MAX_INSTANCES` instance files.
+fn inputs_of(alloc: Global, words: &[String]) -> Result<Inputs, JobRefusal>
+    ensures { IsReading (AreInputsOf (map string_bytes words.now)) result }
+{
+    let [domain, instances @ ..] = words else {
+        return Err(JobRefusal::Usage);
+    };
+    if !are_file_names(domain, instances) {
+        return Err(JobRefusal::Usage);
+    }
+    Ok(Inputs {
+        domain: Text::of(alloc, domain.as_bytes())?,
+        instances: texts_of(alloc, instances)?,
+    })
 }
 
 // Whether the words name a domain file, and from 1 to `MAX_INSTANCES` instance files.
@@ -102,21 +209,6 @@ fn is_file_name(word: &[u8]) -> bool
     ensures { result ≡ is_file_name word.now }
 {
     word.first().is_some_and(|first| *first != b'-')
-}
-
-// The number from 1 to a limit that a word is, in decimal. The limit has one digit.
-fn number_of(word: &String, most: u8) -> Option<u8>
-    requires { most ≤ 9 }
-    ensures some { IfSome result (λ number. (0 < number) × (number ≤ most) × (string_bytes word.now ≡ decimal number)) }
-    ensures none { IfNone result ((number : ℕ) → 0 < number → number ≤ most → string_bytes word.now ≢ decimal number) }
-{
-    let [digit] = word.as_bytes() else {
-        return None;
-    };
-    if *digit <= b'0' || b'0' + most < *digit {
-        return None;
-    }
-    Some(*digit - b'0')
 }
 
 fn texts_of(alloc: Global, words: &[String]) -> Result<List<Text>, OutOfMemory>

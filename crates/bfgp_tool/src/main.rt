@@ -1,4 +1,5 @@
-//! The generalized planner `bfgp`: searches for a smallest program that solves planning instances.
+//! The generalized planner `bfgp`: searches for a smallest program that solves planning instances, and
+//! runs programs on them.
 #![tactic(auto)]
 
 mod document;
@@ -8,7 +9,12 @@ mod input;
 mod instance_reading;
 mod job;
 mod laws;
+mod machine;
+mod number;
 mod reply;
+mod run;
+#[cfg(test)]
+mod run_tests;
 mod status;
 mod synth;
 #[cfg(test)]

@@ -13,19 +13,20 @@ const SEARCH: &str = "synth --pointers 1 --lines 3 d i";
 
 const PREDICATES: &str = "(define (domain lights) (:predicates (lit ?x)))";
 
-const LIGHTS: &str = "(define (domain lights)
+pub const LIGHTS: &str = "(define (domain lights)
   (:predicates (lit ?x))
   (:action light :parameters (?x) :precondition () :effect (lit ?x)))";
 
 const CELLS: &str = "(define (domain cells) (:types cell - place) (:predicates (seen ?x))
   (:action look :parameters (?x - place) :effect (seen ?x)))";
 
-const LIT: &str =
+pub const LIT: &str =
     "(define (problem one) (:domain lights) (:objects a) (:init (lit a)) (:goal (lit a)))";
 
-const UNLIT: &str = "(define (problem one) (:domain lights) (:objects a) (:init) (:goal (lit a)))";
+pub const UNLIT: &str =
+    "(define (problem one) (:domain lights) (:objects a) (:init) (:goal (lit a)))";
 
-const TWO_UNLIT: &str =
+pub const TWO_UNLIT: &str =
     "(define (problem two) (:domain lights) (:objects a b) (:init) (:goal (and (lit a) (lit b))))";
 
 const SOLVED: &str = "bfgp answer 1
@@ -165,7 +166,7 @@ f 0 1
 end of answer
 ";
 
-const USAGE: &str =
+pub const USAGE: &str =
     "usage: bfgp synth --pointers K --lines N [--budget B] [--run R] [--order E] DOMAIN INSTANCE..
        bfgp check --pointers K --lines N --answer FILE DOMAIN INSTANCE..
        bfgp run --pointers K --program FILE [--run R] DOMAIN INSTANCE..
@@ -173,7 +174,7 @@ const USAGE: &str =
 ";
 
 // The words of a line, parted by single spaces.
-fn words_of(alloc: Global, line: &str) -> Result<Vec<String>, AllocError> {
+pub fn words_of(alloc: Global, line: &str) -> Result<Vec<String>, AllocError> {
     let mut words = Vec::new(alloc);
     for word in line.split(' ') {
         words.push(String::from_str(alloc, word)?)?;
@@ -182,7 +183,7 @@ fn words_of(alloc: Global, line: &str) -> Result<Vec<String>, AllocError> {
 }
 
 // A shelf that holds the domain `d` and the instance `i`.
-fn shelf_of(alloc: Global, domain: &str, instance: &str) -> Result<MemoryShelf, Fail> {
+pub fn shelf_of(alloc: Global, domain: &str, instance: &str) -> Result<MemoryShelf, Fail> {
     let mut shelf = MemoryShelf::new(alloc);
     shelf.add(b"d", domain.as_bytes())?;
     shelf.add(b"i", instance.as_bytes())?;
@@ -292,7 +293,7 @@ fn programs_and_refutations(rt: HostRuntime) -> Result<(), Fail> {
 }
 
 // Runs the words of a line over a shelf, and compares the status and what was written.
-fn check<R: Abort>(
+pub fn check<R: Abort>(
     rt: &R,
     alloc: Global,
     line: &str,
@@ -805,7 +806,7 @@ fn limits_at_their_bounds_and_one_past(rt: HostRuntime) -> Result<(), Fail> {
 }
 
 // A domain whose actions have as many operations over four pointers as there may be but four, or one more.
-fn many_actions(alloc: Global, one_more: bool) -> Result<String, AllocError> {
+pub fn many_actions(alloc: Global, one_more: bool) -> Result<String, AllocError> {
     let mut domain = String::from_str(alloc, "(define (domain lights) (:predicates (lit ?x))")?;
     for (number, params) in ["?a ?b ?c ?d", "?a ?b ?c", "?a ?b ?c", "?a ?b", "?a", "?a"]
         .iter()

@@ -1,7 +1,7 @@
 ghost use Rattle.std.specs.Prelude.{◌≡◌, ◌≢◌, ◌≤◌, map, string_bytes, Err, IfOk, IfErr};
 ghost use Rattle.bfgp_outside.specs.Causes.{Rose};
 ghost use Rattle.bfgp_outside.specs.Shelf.{Knowing, GoesOn};
-ghost use Rattle.bfgp_tool.specs.Words.{KeepsLimits};
+ghost use Rattle.bfgp_tool.specs.Words.{IsJob};
 ghost use Rattle.bfgp_tool.specs.Steps.{Gives};
 ghost use Rattle.bfgp_tool.specs.Due.{Due, job_due};
 ghost use Rattle.bfgp_tool.specs.Answers.{Answers, IsSilent, UsageIsExact, InputCause, IsReplyStatus, Writes, OnReply, RepliesUsage, TellsFault, IsVerdict, HaltCause};
@@ -9,6 +9,7 @@ ghost use Rattle.bfgp_tool.specs.Headline.{Headline};
 
 use crate::job::{Job, JobRefusal, job_of};
 use crate::reply::{Halt, Reply};
+use crate::run::run;
 use crate::status::Status;
 use crate::synth::synth;
 use crate::usage::usage;
@@ -63,21 +64,24 @@ fn reply_to<S: Shelf>(alloc: Global, words: &[String], shelf: &mut S) -> Result<
     ensures goes_on { GoesOn S.files S.faults S.absences shelf.old shelf.new }
 {
     match job_of(alloc, words) {
-        Ok(job) => run(alloc, shelf, &job),
+        Ok(job) => reply_for(alloc, shelf, &job),
         Err(JobRefusal::Usage) => Ok(usage(alloc)?),
         Err(JobRefusal::OutOfMemory) => Err(Halt::OutOfMemory),
     }
 }
 
-fn run<S: Shelf>(alloc: Global, shelf: &mut S, job: &Job) -> Result<Reply, Halt>
-    requires { KeepsLimits job.now }
+fn reply_for<S: Shelf>(alloc: Global, shelf: &mut S, job: &Job) -> Result<Reply, Halt>
+    requires { IsJob job.now }
     ensures due { Knowing (S.files shelf.old) (λ files. Gives (job_due files job.now) result) }
     ensures verdict { IfOk result (λ reply. IsVerdict reply.status) }
     ensures cause { IfErr result
         (HaltCause (S.faults shelf.old) (S.faults shelf.new) (S.absences shelf.old) (S.absences shelf.new)) }
     ensures goes_on { GoesOn S.files S.faults S.absences shelf.old shelf.new }
 {
-    synth(alloc, shelf, job)
+    match job {
+        Job::Synth(job) => synth(alloc, shelf, job),
+        Job::Run(job) => run(alloc, shelf, job),
+    }
 }
 
 fn write<K: Sink>(out: &mut K, reply: &Reply) -> Status
