@@ -1,5 +1,5 @@
 -- Runs of the machine over some instances: which end with the goal met, in states in which every fact of the goal is true.
-use Rattle.std.proofs.Common.{◌≡◌, ℕ, zero, suc, Bool, true, false, nat_lt, if◌then◌else◌, ◌+◌, List, [], ◌∷◌, map, length, slice_get, slice_index, get_or, Option, Some, None, sym, subst, arith}
+use Rattle.std.proofs.Common.{◌≡◌, ℕ, zero, suc, ◌<◌, ◌≤◌, Bool, true, false, nat_lt, if◌then◌else◌, ◌+◌, List, [], ◌∷◌, map, length, slice_get, slice_index, get_or, Option, Some, None, sym, subst, arith}
 use Rattle.std.proofs.lemmas.Option.{option_and_then_some, slice_get_within, slice_get-get_or, get_or_from_slice_get}
 use Rattle.std.proofs.lemmas.List.{length-map}
 use Rattle.std.proofs.lemmas.List.Elements.{All-contains}
@@ -24,8 +24,9 @@ use Rattle.pointer_machine.specs.declared.form.Form.TheVariants.{Act, Test, Inc,
 use Rattle.pointer_machine.specs.declared.pointing.Pointing.{Pointing}
 use Rattle.pointer_machine.specs.Operations.{operations}
 use Rattle.pointer_machine.specs.Meaning.{Effect, effect, operated, table_at, meaning}
+use Rattle.instance_report.specs.Runs.{SolvesAllWithin}
 use Rattle.synthesis.specs.Answers.{AreEndsFrom}
-use Rattle.bfgp_tool.specs.Headline.{machine_of, EndsInGoal, AreEndsInGoal, SolvesEach}
+use Rattle.bfgp_tool.specs.Headline.{machine_of, EndsInGoal, AreEndsInGoal, SolvesEach, SolvesEachWithin, FailsOne}
 
 -- ---- what the operations make of a state of a table is one
 acted_keeps : (task : TaskParts) (table : Ground) (schema : ℕ) (args : List ℕ) (state : State) → IsStateOf table state → IsStateOf table (acted task table schema args state)
@@ -125,24 +126,40 @@ module _ (task : TaskParts) (instances : List InstanceParts) (pointers : ℕ) (f
         met = λ k d within. held (get_or instance.goal k d) (Contains-from_place instance.goal k (get_or instance.goal k d) (slice_get-get_or instance.goal k d within));
       }
 
-  solves_where_ends : (p : Program) (t steps : ℕ) (instance : InstanceParts) → slice_get instances t ≡ Some instance → EndsInGoal task instances pointers p t instance steps → Solves (machine_of task instances pointers) p t
-  solves_where_ends p t steps instance here ends =
+  ends_where_met : (p : Program) (t steps : ℕ) (instance : InstanceParts) → slice_get instances t ≡ Some instance → EndsInGoal task instances pointers p t instance steps → Ends (machine_of task instances pointers) p t steps
+  ends_where_met p t steps instance here ends =
       let atoms = ends.config.value.atoms in
       let state = state_is p t steps instance ends.config here ends.comes in
-      let none = (goal_met_where_held task instance atoms (fits t instance here) state).1 (λ fact wanted. All-contains (Holds (ground_of task instance) atoms) instance.goal fact ends.met wanted) in (
-        steps,
-        record {
-          config = ends.config;
-          comes = ends.comes;
-          last = ends.last;
-          lacks = subst (λ (table : Ground). missing table.goal atoms ≡ 0) (sym (table_is t instance here)) none;
-        },
-      )
+      let none = (goal_met_where_held task instance atoms (fits t instance here) state).1 (λ fact wanted. All-contains (Holds (ground_of task instance) atoms) instance.goal fact ends.met wanted) in
+      record {
+        config = ends.config;
+        comes = ends.comes;
+        last = ends.last;
+        lacks = subst (λ (table : Ground). missing table.goal atoms ≡ 0) (sym (table_is t instance here)) none;
+      }
 
   pub solves_each : (p : Program) → SolvesAll (machine_of task instances pointers) p → SolvesEach task instances pointers p
   solves_each p all t instance here =
       let solved = all t (omega (arith, slice_get_within instances t instance here, length-map instances (ground_of task))) in
       (solved.0, ends_in_goal p t solved.0 instance here solved.1)
+
+  -- within a limit on steps too
+  pub each_within : (p : Program) (limit : ℕ) → SolvesAllWithin (machine_of task instances pointers) p limit → SolvesEachWithin task instances pointers p limit
+  each_within p limit all t instance here =
+      let solved = all t (omega (arith, slice_get_within instances t instance here, length-map instances (ground_of task))) in
+      (solved.0, solved.1, ends_in_goal p t solved.0 instance here solved.2)
+
+  -- an instance of the machine on which no run ends so is one that is given
+  pub fails_one : (p : Program) (limit t : ℕ) → t < length tables → ((j : ℕ) → j ≤ limit → Ends (machine_of task instances pointers) p t j → ⊥) → FailsOne task instances pointers p limit
+  fails_one p limit t within fails =
+      let no_instance : InstanceParts = record { objects = []; init = []; goal = [] } in
+      let here = slice_get-get_or instances t no_instance (omega (arith, within, length-map instances (ground_of task))) in
+      record {
+        t = t;
+        instance = get_or instances t no_instance;
+        given = here;
+        fails = λ steps few ends. fails steps few (ends_where_met p t steps (get_or instances t no_instance) here ends);
+      }
 
   -- the steps that are told are those after which the runs end so
   pub ends_each : (p : Program) (ends : List ℕ) → AreEndsFrom (machine_of task instances pointers) p 0 ends → AreEndsInGoal task instances pointers p ends
@@ -157,4 +174,4 @@ module _ (task : TaskParts) (instances : List InstanceParts) (pointers : ℕ) (f
   solves_all p each t within =
       let here = slice_get-get_or instances t (record { objects = []; init = []; goal = [] }) (omega (arith, within, length-map instances (ground_of task))) in
       let ends = each t _ here in
-      solves_where_ends p t ends.0 _ here ends.1
+      (ends.0, ends_where_met p t ends.0 _ here ends.1)

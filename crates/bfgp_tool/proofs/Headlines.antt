@@ -4,7 +4,7 @@ use Rattle.bfgp_outside.specs.Shelf.{Files}
 use Rattle.bfgp_outside.specs.Sink.{Appends}
 use Rattle.ground_state.specs.declared.parts.InstanceParts.{InstanceParts}
 use Rattle.ground_state.specs.Instance.{IsInstance}
-use Rattle.program_model.specs.Program.{Program}
+use Rattle.program_model.specs.Program.{Program, IsProgram}
 use Rattle.program_model.specs.Semantics.{Semantics}
 use Rattle.program_text.specs.Reading.{Reads}
 use Rattle.pointer_machine.specs.declared.pointing.Pointing.{Pointing}
@@ -13,7 +13,7 @@ use Rattle.pointer_machine.specs.Texts.{operation_texts}
 use Rattle.pointer_machine.proofs.Counts.{length-operations}
 use Rattle.instance_report.specs.declared.answer.Report.{Report}
 use Rattle.instance_report.specs.Report.{IsReport}
-use Rattle.instance_report.proofs.Solving.{solved_exactly}
+use Rattle.instance_report.proofs.Solving.{solved_exactly, unsolved_somewhere}
 use Rattle.synthesis.specs.declared.limits.TheConstants.{BUDGET, RUN_LIMIT}
 use Rattle.synthesis.specs.declared.evidence.Answer.{Answer}
 use Rattle.synthesis.specs.declared.evidence.Outcome.{Outcome}
@@ -38,12 +38,12 @@ use Rattle.bfgp_tool.specs.Steps.{goes_on}
 use Rattle.bfgp_tool.specs.Document.{document}
 use Rattle.bfgp_tool.specs.Due.{Due, answer, fault, usage, synth_due, run_due, job_due, status_of, report_status}
 use Rattle.bfgp_tool.specs.Answers.{Writes}
-use Rattle.bfgp_tool.specs.Headline.{Headline, Succeeds, Refutes, Poses, machine_of, FindsLeast, RefutesAll, ProgramSolves}
+use Rattle.bfgp_tool.specs.Headline.{Headline, Succeeds, Refutes, Poses, machine_of, FindsLeast, RefutesAll, PosesProgram, ProgramSolves, ProgramFails}
 use Rattle.bfgp_tool.proofs.Held.{machine_held, whole_held}
 use Rattle.bfgp_tool.proofs.Inputs.{job_input}
 use Rattle.bfgp_tool.proofs.OneJob.{job_kept}
 use Rattle.bfgp_tool.proofs.Runs.{program_over}
-use Rattle.bfgp_tool.proofs.GoalRuns.{solves_each, solves_all, ends_each}
+use Rattle.bfgp_tool.proofs.GoalRuns.{solves_each, each_within, fails_one, solves_all, ends_each}
 
 -- ---- a reply of `synth`
 -- what is posed, and the search's answer on it
@@ -170,26 +170,42 @@ reported files job reply (goes_on {a = machine} made (goes_on {a = bytes} read (
       status_is = ap (λ (r : Reply). r.status) found.2;
     }
 
--- the status 0 is that of a report on which all instances are solved
+-- the status 0 is that of a report on which all instances are solved, and the status 1 that of any other
 all_are_solved : (all_solved : Bool) → report_status all_solved ≡ Done → all_solved ≡ true
 all_are_solved true done = refl
 all_are_solved false done = absurd (cc)
 
-program_solves : (files : Files) (job : RunJob) (reply : Reply) → Reported files job reply → reply.status ≡ Done → ProgramSolves job files
-program_solves files job reply known done =
-    let task = known.posed.task in
-    let machine = machine_of task known.posed.instances job.pointers in
-    let is_program = program_over (record { task = task; tables = []; pointers = job.pointers }) known.bytes known.program known.reads in
-    let all_solved = all_are_solved known.report.all_solved (sym known.status_is ∙ done) in
-    let within = (solved_exactly machine machine.ops known.program is_program.is_partial job.run known.is_report.runs known.is_report.are_runs).0 (sym known.is_report.all_solved ∙ all_solved) in
-    record {
-      posed = known.posed;
-      bytes = known.bytes;
-      held = known.held;
-      program = known.program;
-      reads = known.reads;
-      solves = solves_each task known.posed.instances job.pointers known.fit known.program (λ t below. let ends = within t below in (ends.0, ends.2));
-    }
+not_all_are_solved : (all_solved : Bool) → report_status all_solved ≡ No → all_solved ≡ false
+not_all_are_solved true refuted = absurd (cc)
+not_all_are_solved false refuted = refl
+
+module _ (files : Files) (job : RunJob) (reply : Reply) (known : Reported files job reply) where
+  abbrev run_machine : Semantics Pointing
+  run_machine = machine_of known.posed.task known.posed.instances job.pointers
+
+  is_whole : IsProgram run_machine.ops known.program
+  is_whole = program_over (record { task = known.posed.task; tables = []; pointers = job.pointers }) known.bytes known.program known.reads
+
+  abbrev poses : PosesProgram job files
+  poses = record { posed = known.posed; bytes = known.bytes; held = known.held; program = known.program; reads = known.reads }
+
+  program_solves : reply.status ≡ Done → ProgramSolves job files
+  program_solves done =
+      let all_solved = all_are_solved known.report.all_solved (sym known.status_is ∙ done) in
+      let exactly = solved_exactly run_machine run_machine.ops known.program is_whole.is_partial job.run known.is_report.runs known.is_report.are_runs in
+      record {
+        poses = poses;
+        solves = each_within known.posed.task known.posed.instances job.pointers known.fit known.program job.run (exactly.0 (sym known.is_report.all_solved ∙ all_solved));
+      }
+
+  program_fails : reply.status ≡ No → ProgramFails job files
+  program_fails refuted =
+      let not_all = not_all_are_solved known.report.all_solved (sym known.status_is ∙ refuted) in
+      let one = unsolved_somewhere run_machine run_machine.ops known.program is_whole.is_partial job.run known.is_report.runs known.is_report.are_runs (sym known.is_report.all_solved ∙ not_all) in
+      record {
+        poses = poses;
+        fails = fails_one known.posed.task known.posed.instances job.pointers known.fit known.program job.run one.t one.within one.fails;
+      }
 
 -- ---- the headline
 -- with status 0
@@ -200,7 +216,7 @@ succeeds files (Run job) reply old new is_job here done appended = program_solve
 -- with status 1
 refuted : (files : Files) (job : Job) (reply : Reply) (old new : Option (List ℕ)) → IsJob job → job_due files job (Ok reply) → reply.status ≡ No → Appends old new reply.text → Refutes job files old new
 refuted files (Synth job) reply old new is_job here status appended = refutes files job is_job reply (answered files job reply here) old new status appended
-refuted files (Run job) reply old new is_job here status appended = tt
+refuted files (Run job) reply old new is_job here status appended = program_fails files job reply (reported files job reply here) status
 
 -- a reply that tells neither a fault nor the usage is what a job comes to
 record Concluded (words : List (List ℕ)) (files : Files) (reply : Reply) : Type 0 where

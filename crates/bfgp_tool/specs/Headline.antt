@@ -104,25 +104,46 @@ pub record RefutesAll (job : SynthJob) (files : Files) (old new : Option (List �
   pub searched : IsAnswer (plain (machine_of posed.task posed.instances job.pointers) RUN_LIMIT) BUDGET job.lines answer
   pub written : Appends old new (document (operation_texts posed.task job.pointers) answer)
 
--- the program that the program file holds solves every instance
-pub record ProgramSolves (job : RunJob) (files : Files) : Type 0 where
+-- the files hold a program, and the task and the instances that it is for
+pub record PosesProgram (job : RunJob) (files : Files) : Type 0 where
   pub posed : Poses job.inputs files
   pub bytes : List ℕ
   pub held : files job.program ≡ Some bytes
   pub program : Program
   pub reads : Reads (operation_texts posed.task job.pointers) bytes (Ok program)
-  pub solves : SolvesEach posed.task posed.instances job.pointers program
+
+-- the program's run on every instance comes to stand so, after steps of at most a limit
+abbrev pub SolvesEachWithin : TaskParts → List InstanceParts → ℕ → Program → ℕ → Type 0
+SolvesEachWithin task instances pointers program limit = (t : ℕ) (instance : InstanceParts) → slice_get instances t ≡ Some instance → (steps : ℕ) × (steps ≤ limit) × EndsInGoal task instances pointers program t instance steps
+
+-- there is an instance on which the program's run does not come to stand so after steps of at most a limit
+pub record FailsOne (task : TaskParts) (instances : List InstanceParts) (pointers : ℕ) (program : Program) (limit : ℕ) : Type 0 where
+  pub t : ℕ
+  pub instance : InstanceParts
+  pub given : slice_get instances t ≡ Some instance
+  pub fails : (steps : ℕ) → steps ≤ limit → EndsInGoal task instances pointers program t instance steps → ⊥
+
+-- the program that the program file holds solves every instance within the limit
+pub record ProgramSolves (job : RunJob) (files : Files) : Type 0 where
+  pub poses : PosesProgram job files
+  pub solves : SolvesEachWithin poses.posed.task poses.posed.instances job.pointers poses.program job.run
+
+-- the program that the program file holds does not solve some instance within the limit
+pub record ProgramFails (job : RunJob) (files : Files) : Type 0 where
+  pub poses : PosesProgram job files
+  pub fails : FailsOne poses.posed.task poses.posed.instances job.pointers poses.program job.run
 
 -- status 0 of `synth` says that the written program solves and none with fewer lines does, and status 0 of `run` that the given
--- program solves
+-- program solves within the limit
 abbrev pub Succeeds : Job → Files → Option (List ℕ) → Option (List ℕ) → Type 0
 Succeeds (Synth job) files old new = FindsLeast job files old new
 Succeeds (Run job) files old new = ProgramSolves job files
 
--- status 1 of `synth` says that no program of at most as many lines as were asked for solves
+-- status 1 of `synth` says that no program of at most as many lines as were asked for solves, and status 1 of `run` that the given
+-- program does not solve some instance within the limit
 abbrev pub Refutes : Job → Files → Option (List ℕ) → Option (List ℕ) → Type 0
 Refutes (Synth job) files old new = RefutesAll job files old new
-Refutes (Run job) files old new = Unit {0}
+Refutes (Run job) files old new = ProgramFails job files
 
 -- with status 0 and with status 1 the words are a job, and this is so of it
 abbrev pub Headline : List (List ℕ) → Files → Status → Option (List ℕ) → Option (List ℕ) → Type 0

@@ -13,8 +13,6 @@ mod machine;
 mod number;
 mod reply;
 mod run;
-#[cfg(test)]
-mod run_tests;
 mod status;
 mod synth;
 #[cfg(test)]

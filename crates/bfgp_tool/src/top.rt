@@ -24,8 +24,9 @@ pub fn bfgp<S: Shelf, K: Sink>(
     shelf: &mut S,
     out: &mut K,
 ) -> Status
-    // With status 0 the written program solves every instance that the words pose, and none with fewer lines does; with
-    // status 1 no program of at most as many lines as were asked for does.
+    // `synth`: with status 0 the written program solves every instance that the words pose, and none with fewer lines does;
+    // with status 1 no program of at most as many lines as were asked for does. `run`: with status 0 the given program
+    // solves every instance within the limit of steps, and with status 1 it does not solve some instance within it.
     ensures headline { Knowing (S.files shelf.old) (λ files.
         Headline (map string_bytes words.now) files result (K.written out.old) (K.written out.new)) }
 

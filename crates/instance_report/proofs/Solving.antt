@@ -1,6 +1,6 @@
 -- What runs of whole programs come to: none waits, and which instances are solved.
-use Rattle.std.proofs.Common.{◌≡◌, ℕ, suc, ◌+◌, ◌<◌, ◌≤◌, true, List, [], ◌∷◌, refl, sym, ◌∙◌, ap, subst, inl, inr, arith}
-use Rattle.std.specs.Prelude.{IsSome, ◌↔◌}
+use Rattle.std.proofs.Common.{◌≡◌, ℕ, suc, ◌+◌, ◌<◌, ◌≤◌, Bool, true, false, List, [], ◌∷◌, refl, sym, ◌∙◌, ap, subst, inl, inr, arith}
+use Rattle.std.specs.Prelude.{IsSome, ◌↔◌, ◌&&◌}
 use Rattle.std.specs.List.{list_all}
 use Rattle.std.proofs.lemmas.Bool.{cases_eq, false≢true, and_parts}
 use Rattle.program_model.specs.Semantics.{Semantics}
@@ -62,3 +62,25 @@ module _ {C : Type 0} (m : Semantics C) (ops : ℕ) (p : Program) (partial : IsP
 
   pub solved_exactly : (xs : List Stood) → AreRunsFrom m p limit 0 xs → (list_all is_solved xs ≡ true) ↔ SolvesAllWithin m p limit
   solved_exactly xs h = (λ e i below. all_from 0 xs h e i (omega arith) below, all_ended 0 xs h)
+
+  -- an instance on which the run does not end with the goal met within the limit
+  pub record UnsolvedOne : Type 0 where
+    pub t : ℕ
+    pub within : t < m.instances
+    pub fails : (j : ℕ) → j ≤ limit → Ends m p t j → ⊥
+
+  unsolved_from : (t : ℕ) (xs : List Stood) → AreRunsFrom m p limit t xs → list_all is_solved xs ≡ false → UnsolvedOne
+  unsolved_from t [] h e = absurd (false≢true (sym e))
+  unsolved_from t (x ∷ xs) h e = by_first (is_solved x) refl (unsolved_from (t + 1) xs h.2)
+    where
+      by_first : (solved : Bool) → is_solved x ≡ solved → (list_all is_solved xs ≡ false → UnsolvedOne) → UnsolvedOne
+      by_first true first rest = rest (subst (λ b. (b && list_all is_solved xs) ≡ false) first e)
+      by_first false first rest = record {
+        t = x.instance;
+        within = h.1.within;
+        fails = λ j few ends. false≢true (sym first ∙ standing_ended m ops p partial limit x.instance x.steps x.standing h.1.stands (j, few, ends));
+      }
+
+  -- where not all runs are told as solved there is such an instance
+  pub unsolved_somewhere : (xs : List Stood) → AreRunsFrom m p limit 0 xs → list_all is_solved xs ≡ false → UnsolvedOne
+  unsolved_somewhere xs h e = unsolved_from 0 xs h e

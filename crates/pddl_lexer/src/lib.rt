@@ -6,6 +6,3 @@ mod parentheses;
 
 pub use lexer::{Kind, LONGEST, LexRefusal, Token, tokens};
 pub use parentheses::{MAX_NESTING, Misplaced, misplaced_parenthesis};
-
-#[cfg(test)]
-mod tests;

@@ -23,6 +23,3 @@ pub use parse::{domain, problem};
 pub use pddl_lexer::LONGEST;
 pub use refusal::ParseRefusal;
 pub use texts::{ActionText, AtomText, DomainText, PredText, ProblemText, Typed, Word};
-
-#[cfg(test)]
-mod tests;

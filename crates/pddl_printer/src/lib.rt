@@ -10,6 +10,3 @@ mod words;
 
 pub use laws::{printed_domain_reads, printed_problem_reads};
 pub use print::{print_domain, print_problem};
-
-#[cfg(test)]
-mod tests;

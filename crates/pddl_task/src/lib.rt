@@ -20,6 +20,3 @@ mod worded;
 pub use laws::{one_instance_reply, one_task_reply};
 pub use making::{instance, task};
 pub use refusal::{TaskRefusal, Which};
-
-#[cfg(test)]
-mod tests;

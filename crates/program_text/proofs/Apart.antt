@@ -1,16 +1,16 @@
 -- An instruction is told by its text, a program by its lines, and a program text says one thing.
-use Rattle.std.proofs.Common.{◌≡◌, ◌≢◌, ℕ, ◌+◌, ◌-◌, ◌<◌, ◌≤◌, ◌^◌, Bool, true, false, List, [], ◌∷◌, length, map, get_or, refl, sym, ◌∙◌, ap, subst, inl, inr, arith}
-use Rattle.std.specs.Prelude.{Option, Some, None, Result, Ok, Err, option_and_then, option_map, slice_get, nat_eq, bytes_eq, codes, decimal}
+use Rattle.std.proofs.Common.{◌≡◌, ◌≢◌, ℕ, ◌-◌, ◌<◌, ◌≤◌, ◌^◌, true, List, [], ◌∷◌, length, map, get_or, refl, sym, ◌∙◌, ap, subst, inl, inr, arith}
+use Rattle.std.specs.Prelude.{Some, None, Result, Ok, Err, option_map, slice_get, nat_eq, bytes_eq, codes, decimal}
 use Rattle.std.specs.List.{starts_with, slice_split}
 use Rattle.std.proofs.lemmas.Bool.{true≢false, false≢true, cases_order}
 use Rattle.std.proofs.lemmas.Fmt.{decimal_injective}
-use Rattle.std.proofs.lemmas.Option.{slice_get-map, slice_get-get_or, slice_get_within, get_or_from_slice_get, same_Some}
+use Rattle.std.proofs.lemmas.Option.{slice_get-map, slice_get_within, get_or_from_slice_get, same_Some}
 use Rattle.std.proofs.lemmas.List.{length-map, ext_get_or}
 use Rattle.flag_rules.specs.declared.flags.Cond.{Cond}
 use Rattle.flag_rules.specs.declared.flags.Cond.TheVariants.{Zero, Nonzero, Carry, Nocarry}
 use Rattle.program_model.specs.declared.instr.Instr.{Instr}
 use Rattle.program_model.specs.declared.instr.Instr.TheVariants.{Op, Goto, End}
-use Rattle.program_model.specs.Program.{Program, line_at, IsInstr, IsProgram}
+use Rattle.program_model.specs.Program.{Program, IsInstr, IsProgram}
 use Rattle.program_text.specs.declared.lines.InstructionLine.{InstructionLine}
 use Rattle.program_text.specs.declared.refusal.ProgramRefusal.{ProgramRefusal}
 use Rattle.program_text.specs.declared.refusal.ProgramRefusal.TheVariants.{TooLong, NoEnd, Line, OutOfMemory}
@@ -19,7 +19,7 @@ use Rattle.program_text.specs.Texts.{cond_text, jump_text, instr_text, program_l
 use Rattle.program_text.specs.Lines.{is_blank}
 use Rattle.program_text.specs.Reading.{texts_of, MayStand, HasEnd, IsAstray, AreLinesOf, Says}
 use Rattle.program_text.proofs.Puts.{line_of_some}
-use Rattle.program_text.proofs.Spelled.{IsPlain, IsLineOf, jump_words, are_jump_words, join_jump, split_words, plain_instr, line_of_program}
+use Rattle.program_text.proofs.Spelled.{IsPlain, jump_words, are_jump_words, join_jump, split_words, plain_instr, line_of_program}
 
 -- ---- instructions
 

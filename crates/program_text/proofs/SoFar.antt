@@ -1,12 +1,12 @@
 -- Programs of which the lines before a place are read.
-use Rattle.std.proofs.Common.{◌≡◌, ◌≢◌, ℕ, ◌+◌, ◌-◌, ◌<◌, ◌≤◌, List, [], length, map, get_or, set, refl, sym, ◌∙◌, ap, subst, inl, inr, arith, length-set}
-use Rattle.std.specs.Prelude.{Option, Some, None, IsSome, option_and_then, option_map, is_some, slice_get, codes}
+use Rattle.std.proofs.Common.{◌≡◌, ℕ, ◌+◌, ◌-◌, ◌<◌, ◌≤◌, List, [], length, map, get_or, refl, sym, ◌∙◌, ap, subst, inl, inr, arith, length-set}
+use Rattle.std.specs.Prelude.{Some, option_map, is_some, slice_get, codes}
 use Rattle.std.proofs.lemmas.Bool.{cases_lt, cases_eq}
 use Rattle.std.proofs.lemmas.Option.{slice_get-map, slice_get-get_or, slice_get_within, get_or_from_slice_get, same_Some}
 use Rattle.std.proofs.lemmas.List.{length-map, ext_get_or}
 use Rattle.program_model.specs.declared.instr.Instr.{Instr}
 use Rattle.program_model.specs.declared.instr.Instr.TheVariants.{End}
-use Rattle.program_model.specs.Program.{Program, line_at, empty, with_line, IsInstr, IsPartial, IsProgram}
+use Rattle.program_model.specs.Program.{Program, line_at, empty, with_line, IsInstr}
 use Rattle.program_model.proofs.Alphabets.{contains_last}
 use Rattle.program_model.proofs.Programs.{line_within, line_at-with_line, line_at-with_other, length-empty, last-empty}
 use Rattle.program_text.specs.declared.lines.InstructionLine.{InstructionLine}

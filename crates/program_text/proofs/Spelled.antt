@@ -1,12 +1,12 @@
 -- Texts of words are read as they are written, and so are programs.
-use Rattle.std.proofs.Common.{◌≡◌, ◌≢◌, ℕ, suc, ◌+◌, ◌/◌, ◌%◌, ◌^◌, ◌<◌, ◌≤◌, Bool, true, false, cond, not, ◌&&◌, ◌||◌, List, [], ◌∷◌, ◌++◌, length, map, get_or, refl, sym, ◌∙◌, ap, subst, inl, inr, arith, append_assoc}
-use Rattle.std.specs.Prelude.{Option, Some, None, IsSome, option_and_then, option_map, slice_get, filter, take_while, ◌==◌, nat_le, codes, decimal, All, IsTrue}
+use Rattle.std.proofs.Common.{◌≡◌, ℕ, ◌+◌, ◌%◌, ◌^◌, ◌<◌, ◌≤◌, Bool, true, false, cond, not, ◌&&◌, ◌||◌, List, [], ◌∷◌, ◌++◌, length, map, get_or, refl, sym, ◌∙◌, ap, subst, inl, inr, arith, append_assoc}
+use Rattle.std.specs.Prelude.{Option, Some, None, IsSome, option_and_then, option_map, slice_get, filter, take_while, ◌==◌, codes, decimal, All, IsTrue}
 use Rattle.std.specs.List.{list_all, slice_split, join_with_byte}
 use Rattle.std.specs.Char.{to_ascii_lowercase}
-use Rattle.std.proofs.lemmas.Bool.{false≢true, cases_lt, and_parts, and_from, or_left, cond-true, not_from_false}
+use Rattle.std.proofs.lemmas.Bool.{false≢true, cases_lt, and_parts, and_from, or_left, cond-true}
 use Rattle.std.proofs.lemmas.Bool.Decides.{nat_tests}
 use Rattle.std.proofs.lemmas.Fmt.{decimal_by_steps}
-use Rattle.std.proofs.lemmas.Option.{slice_get-map, slice_get-get_or, get_or_from_slice_get}
+use Rattle.std.proofs.lemmas.Option.{slice_get-map, get_or_from_slice_get}
 use Rattle.std.proofs.lemmas.List.{length-map}
 use Rattle.std.proofs.lemmas.List.Elements.{All-nil, All-cons, All-head, All-tail}
 use Rattle.std.proofs.lemmas.List.Folds.{list_all-append}
@@ -14,19 +14,17 @@ use Rattle.std.proofs.lemmas.List.Splits.{slice_split_none, slice_split_at}
 use Rattle.std.proofs.lemmas.List.Sums.{AllPass-from_list_all, take_while-cons}
 use Rattle.flag_rules.specs.declared.flags.Cond.{Cond}
 use Rattle.flag_rules.specs.declared.flags.Cond.TheVariants.{Zero, Nonzero, Carry, Nocarry}
-use Rattle.flag_rules.specs.Line.{line, lines_of}
-use Rattle.flag_rules.specs.Name.{is_capital}
+use Rattle.flag_rules.specs.Line.{lines_of}
 use Rattle.program_model.specs.declared.instr.Instr.{Instr}
 use Rattle.program_model.specs.declared.instr.Instr.TheVariants.{Op, Goto, End}
 use Rattle.program_model.specs.Program.{Program, line_at, IsInstr, IsProgram}
 use Rattle.program_model.proofs.Alphabets.{contains_jump, contains_last}
-use Rattle.program_model.proofs.Programs.{line_within}
 use Rattle.program_text.specs.declared.lines.InstructionLine.{InstructionLine}
-use Rattle.program_text.specs.Names.{is_word_byte, is_word, IsWorded, IsOperationText, AreNames}
-use Rattle.program_text.specs.Texts.{cond_text, jump_text, instr_text, program_line, program_text, HasText}
+use Rattle.program_text.specs.Names.{is_word_byte, is_word, IsWorded, AreNames}
+use Rattle.program_text.specs.Texts.{cond_text, jump_text, instr_text, program_line, program_text}
 use Rattle.program_text.specs.Lines.{lines_of_text, is_blank, has_items, said_by_line, words_of_line, line_text, has_words, numbered_from, instruction_lines}
 use Rattle.program_text.specs.Reading.{texts_of, AreLinesOf}
-use Rattle.program_text.proofs.Puts.{line_of_some, has_text_of}
+use Rattle.program_text.proofs.Puts.{has_text_of}
 
 -- ---- bytes
 

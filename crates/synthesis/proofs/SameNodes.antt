@@ -2,13 +2,10 @@
 use Rattle.std.proofs.Common.{◌≡◌, ℕ, ◌+◌, List, [], ◌∷◌, refl, sym, ◌∙◌, ap, inl, inr, arith}
 use Rattle.std.specs.List.{AllByRecursion as Each}
 use Rattle.std.proofs.lemmas.Bool.{cases_Bool, MatchBool-at_true, MatchBool-at_false}
-use Rattle.std.proofs.lemmas.Option.{same_Some}
 use Rattle.program_model.specs.declared.instr.Instr.{Instr}
 use Rattle.program_model.specs.Semantics.{Semantics}
 use Rattle.program_model.specs.Program.{Program, IsPartial}
-use Rattle.program_model.specs.Run.{Config, at}
-use Rattle.program_model.specs.Standing.{IsStanding}
-use Rattle.program_model.specs.Verdict.{Stood, IsStood, AreStood, AreStoodFrom, is_refuting, verdict}
+use Rattle.program_model.specs.Verdict.{Stood, AreStood, AreStoodFrom, is_refuting, verdict}
 use Rattle.interpreter.proofs.SameOutcomes.{same_stood}
 use Rattle.synthesis.specs.Search.{Setting, judged, Node, IsJudged, IsRoot, IsChild, AreChildren}
 

@@ -1,9 +1,9 @@
-use Rattle.std.proofs.Common.{◌≡◌, ◌∙◌, ap, not, rules, tests}
+use Rattle.std.proofs.Common.{◌∙◌, ap, not, rules, tests}
 use Rattle.std.specs.Prelude.{take_while, ◌==◌}
 use Rattle.std.specs.List.{list_any}
 use Rattle.std.proofs.lemmas.Iterator.{YieldsList-from_slice}
 use Rattle.std.proofs.lemmas.Iterator.Search.{any_from_yields_List}
-use Rattle.program_text.specs.Lines.{is_blank, has_words}
+use Rattle.program_text.specs.Lines.{is_blank}
 use Rattle.program_text.proofs.LineWords.{words_there}
 use Rattle.program_text.proofs.lines.has_words.Goals as goal
 

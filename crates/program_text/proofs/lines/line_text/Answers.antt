@@ -1,6 +1,6 @@
-use Rattle.std.proofs.Common.{◌≡◌, ◌∙◌, ◌∷◌, [], sym, ap, map, List, ℕ, Bor, rules, tests}
+use Rattle.std.proofs.Common.{◌∙◌, ◌∷◌, [], sym, ap, map, List, ℕ, Bor, rules, tests}
 use Rattle.std.specs.Prelude.{filter}
-use Rattle.std.specs.List.{join_with_byte, slice_split}
+use Rattle.std.specs.List.{join_with_byte}
 use Rattle.std.specs.Char.{to_ascii_lowercase}
 use Rattle.std.proofs.lemmas.List.{map-append}
 use Rattle.std.proofs.lemmas.Iterator.Consumers.{YieldsList-at}

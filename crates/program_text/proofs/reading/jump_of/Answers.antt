@@ -1,4 +1,4 @@
-use Rattle.std.proofs.Common.{◌≡◌, arith}
+use Rattle.std.proofs.Common.{arith}
 use Rattle.program_text.proofs.Puts.{has_text_of}
 use Rattle.program_text.proofs.Jumps.{instr_there, no_instr}
 use Rattle.program_text.proofs.reading.jump_of.Goals as goal

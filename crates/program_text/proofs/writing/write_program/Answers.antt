@@ -1,5 +1,4 @@
-use Rattle.std.proofs.Common.{◌≡◌, ◌∙◌, sym, arith}
-use Rattle.std.specs.Prelude.{Some}
+use Rattle.std.proofs.Common.{◌∙◌, sym, arith}
 use Rattle.bfgp_outside.proofs.Written.{on_err}
 use Rattle.program_text.proofs.Puts.{program_has_text, put_more, put_part}
 use Rattle.program_text.proofs.writing.write_program.Goals as goal

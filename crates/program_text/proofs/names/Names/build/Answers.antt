@@ -1,8 +1,7 @@
-use Rattle.std.proofs.Common.{◌≡◌, ◌+◌, ◌<◌, ◌∷◌, [], ◌∙◌, sym, ap, subst, length, take, get_or, map, vec_items, List, ℕ, arith}
-use Rattle.std.proofs.lemmas.List.{take_all, length_push}
+use Rattle.std.proofs.Common.{◌≡◌, ◌∙◌, sym, ap, length, take, get_or, map, vec_items, List, ℕ, arith}
+use Rattle.std.proofs.lemmas.List.{length_push}
 use Rattle.std.proofs.lemmas.Iterator.Adapters.{YieldsList-from_vec}
-use Rattle.std.proofs.lemmas.Iterator.Consumers.{YieldsList-turn, YieldsList-end}
-use Rattle.program_text.specs.Names.{AreNames}
+use Rattle.std.proofs.lemmas.Iterator.Consumers.{YieldsList-turn}
 use Rattle.program_text.proofs.Found.{one_more_text}
 use Rattle.program_text.proofs.names.Names.build.Goals as goal
 

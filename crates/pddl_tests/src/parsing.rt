@@ -1,5 +1,5 @@
-use crate::{AtomText, LONGEST, ParseRefusal, Typed, Word, domain, problem};
 use flag_rules::List;
+use pddl_parser::{AtomText, LONGEST, ParseRefusal, Typed, Word, domain, problem};
 use std::alloc::{AllocError, Global};
 
 /// Tells a word and its place.
@@ -120,69 +120,77 @@ fn problem_refusal(alloc: Global, bytes: &[u8]) -> Option<ParseRefusal> {
     problem(alloc, bytes).err()
 }
 
+/// Bytes that are no text of a domain, and why.
+const NO_DOMAINS: &[(&[u8], ParseRefusal)] = &[
+    (
+        b"(define (domain d) (:types a ! b))",
+        ParseRefusal::Byte(29),
+    ),
+    (
+        b"(define (domain d) (:types a b",
+        ParseRefusal::Unclosed(19),
+    ),
+    (b"(define (domain d)))", ParseRefusal::Unopened(19)),
+    (&[b'('; 65], ParseRefusal::TooDeep(64)),
+    (b"; no text", ParseRefusal::Shape(9)),
+    (b"(define (domain d)) d", ParseRefusal::Shape(20)),
+    (b"(define (domain d) (:types - a))", ParseRefusal::Shape(27)),
+    (
+        b"(define (domain d) (:predicates) (:predicates))",
+        ParseRefusal::Shape(34),
+    ),
+    (
+        b"(define (domain d) (:functions (cost)))",
+        ParseRefusal::Unsupported(20),
+    ),
+    (
+        b"(define (domain d) (:action a :duration ()))",
+        ParseRefusal::Unsupported(30),
+    ),
+    (
+        b"(define (domain d) (:requirements :strips :adl))",
+        ParseRefusal::Unsupported(42),
+    ),
+    (
+        b"(define (domain d) (:action a :precondition (not (p))))",
+        ParseRefusal::Unsupported(45),
+    ),
+    (
+        b"(define (domain d) (:action a :precondition (= ?x ?y)))",
+        ParseRefusal::Unsupported(45),
+    ),
+    (
+        b"(define (domain d) (:constants a - (either b c)))",
+        ParseRefusal::Unsupported(36),
+    ),
+];
+
+/// The same of problems.
+const NO_PROBLEMS: &[(&[u8], ParseRefusal)] = &[
+    (b"(define (problem p) (:domain d))", ParseRefusal::Shape(31)),
+    (
+        b"(define (problem p) (:domain d) (:goal (p ?x)))",
+        ParseRefusal::Shape(42),
+    ),
+    (
+        b"(define (problem p) (:metric (p)))",
+        ParseRefusal::Unsupported(21),
+    ),
+];
+
 #[test]
 fn tells_where_a_text_is_none(rt: HostRuntime) {
-    let domains: [(&[u8], ParseRefusal); 14] = [
-        (
-            b"(define (domain d) (:types a ! b))",
-            ParseRefusal::Byte(29),
-        ),
-        (
-            b"(define (domain d) (:types a b",
-            ParseRefusal::Unclosed(19),
-        ),
-        (b"(define (domain d)))", ParseRefusal::Unopened(19)),
-        (&[b'('; 65], ParseRefusal::TooDeep(64)),
-        (b"; no text", ParseRefusal::Shape(9)),
-        (b"(define (domain d)) d", ParseRefusal::Shape(20)),
-        (b"(define (domain d) (:types - a))", ParseRefusal::Shape(27)),
-        (
-            b"(define (domain d) (:predicates) (:predicates))",
-            ParseRefusal::Shape(34),
-        ),
-        (
-            b"(define (domain d) (:functions (cost)))",
-            ParseRefusal::Unsupported(20),
-        ),
-        (
-            b"(define (domain d) (:action a :duration ()))",
-            ParseRefusal::Unsupported(30),
-        ),
-        (
-            b"(define (domain d) (:requirements :strips :adl))",
-            ParseRefusal::Unsupported(42),
-        ),
-        (
-            b"(define (domain d) (:action a :precondition (not (p))))",
-            ParseRefusal::Unsupported(45),
-        ),
-        (
-            b"(define (domain d) (:action a :precondition (= ?x ?y)))",
-            ParseRefusal::Unsupported(45),
-        ),
-        (
-            b"(define (domain d) (:constants a - (either b c)))",
-            ParseRefusal::Unsupported(36),
-        ),
-    ];
-    for (text, refusal) in domains {
-        assert_eq!(rt; domain_refusal(rt.alloc(), text), Some(refusal), "{text:?}");
+    for (text, refusal) in NO_DOMAINS {
+        assert_eq!(rt;
+            domain_refusal(rt.alloc(), text),
+            Some(*refusal),
+            "{text:?}"
+        );
     }
-    let problems: [(&[u8], ParseRefusal); 3] = [
-        (b"(define (problem p) (:domain d))", ParseRefusal::Shape(31)),
-        (
-            b"(define (problem p) (:domain d) (:goal (p ?x)))",
-            ParseRefusal::Shape(42),
-        ),
-        (
-            b"(define (problem p) (:metric (p)))",
-            ParseRefusal::Unsupported(21),
-        ),
-    ];
-    for (text, refusal) in problems {
+    for (text, refusal) in NO_PROBLEMS {
         assert_eq!(rt;
             problem_refusal(rt.alloc(), text),
-            Some(refusal),
+            Some(*refusal),
             "{text:?}"
         );
     }

@@ -1,4 +1,4 @@
-use crate::{Kind, LONGEST, LexRefusal, Misplaced, misplaced_parenthesis, tokens};
+use pddl_lexer::{Kind, LONGEST, LexRefusal, Misplaced, misplaced_parenthesis, tokens};
 use std::alloc::Global;
 
 type Span = (Kind, u32, u32);

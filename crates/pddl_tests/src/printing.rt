@@ -1,10 +1,9 @@
 ghost use Rattle.std.specs.Prelude.{◌≤◌, length};
 ghost use Rattle.pddl_lexer.specs.declared.lexer.TheConstants.{LONGEST};
 
-use crate::words::typed_list;
-use crate::{print_domain, print_problem};
 use flag_rules::{List, OutOfMemory, Text};
-use pddl_parser::{LONGEST, ParseRefusal, Typed, Word, domain, problem};
+use pddl_parser::{DomainText, LONGEST, ParseRefusal, Typed, Word, domain, problem};
+use pddl_printer::{print_domain, print_problem};
 use std::alloc::Global;
 
 fn domain_reprinted(alloc: Global, bytes: &[u8]) -> Result<Vec<u8>, ParseRefusal>
@@ -60,9 +59,7 @@ fn word(alloc: Global, text: &[u8]) -> Result<Word, OutOfMemory> {
     })
 }
 
-#[test]
-fn gives_a_word_the_type_object_before_a_typed_one(rt: HostRuntime) -> Result<(), OutOfMemory> {
-    let alloc = rt.alloc();
+fn constants(alloc: Global) -> Result<List<Typed>, OutOfMemory> {
     let mut names = List::new(alloc);
     names.push(Typed {
         word: word(alloc, b"door")?,
@@ -76,11 +73,23 @@ fn gives_a_word_the_type_object_before_a_typed_one(rt: HostRuntime) -> Result<()
         word: word(alloc, b"hall")?,
         of: None,
     })?;
-    let mut out = Text::new(alloc);
-    typed_list(&mut out, &names)?;
+    Ok(names)
+}
+
+#[test]
+fn gives_a_word_the_type_object_before_a_typed_one(rt: HostRuntime) -> Result<(), OutOfMemory> {
+    let alloc = rt.alloc();
+    let text = DomainText {
+        name: word(alloc, b"lights")?,
+        requirements: List::new(alloc),
+        types: List::new(alloc),
+        constants: constants(alloc)?,
+        predicates: List::new(alloc),
+        actions: List::new(alloc),
+    };
     assert_eq!(rt;
-        out.as_slice(),
-        b" door - object lamp - light hall".as_slice()
+        print_domain(alloc, &text)?.as_slice(),
+        b"( define ( domain lights ) ( :requirements ) ( :types ) ( :constants door - object lamp - light hall ) ( :predicates ) )\n".as_slice()
     );
     Ok(())
 }

@@ -1,9 +1,9 @@
 ghost use Rattle.std.specs.Prelude.{IfOk};
 ghost use Rattle.pddl_parser.specs.Replies.{IsDomainText, IsProblemText};
 
-use crate::{TaskRefusal, Which, instance, task};
 use ground_state::{Fact, Instance, Lifted, ObjectEntry, SchemaEntry, Task, Term, TypeEntry};
 use pddl_parser::{DomainText, LONGEST, ProblemText, domain, problem};
+use pddl_task::{TaskRefusal, Which, instance, task};
 use std::alloc::Global;
 use std::test::Fail;
 
