@@ -1,7 +1,7 @@
 -- Steps that come to one result at most.
 use Rattle.std.proofs.Common.{◌≡◌, ℕ, List, Option, Some, None, Result, Ok, Err, refl, sym, ◌∙◌, ap, subst}
 use Rattle.std.specs.Prelude.{IsSomeAnd}
-use Rattle.bfgp_tool.specs.declared.reply.Reply.{Reply}
+use Rattle.bfgp_tool.specs.Reply.{Reply}
 use Rattle.bfgp_tool.specs.declared.fault.Fault.{Fault}
 use Rattle.bfgp_tool.specs.Faults.{fault_reply}
 use Rattle.bfgp_tool.specs.Steps.{◌>>=◌, goes_on, ends, or_tell, pure}

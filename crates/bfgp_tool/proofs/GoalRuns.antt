@@ -18,14 +18,14 @@ use Rattle.ground_state.proofs.MetGoals.{goal_met_where_held}
 use Rattle.program_model.specs.declared.instr.Instr.{Instr}
 use Rattle.program_model.specs.declared.instr.Instr.TheVariants.{Op, Goto, End}
 use Rattle.program_model.specs.Program.{Program, line_at}
-use Rattle.program_model.specs.Run.{Config, first, step, next, at, Ends, Solves, SolvesAll}
+use Rattle.program_model.specs.Run.{Config, first, step, next, at, Ends, SolvesAll}
 use Rattle.pointer_machine.specs.declared.form.Form.{Form}
 use Rattle.pointer_machine.specs.declared.form.Form.TheVariants.{Act, Test, Inc, Dec, Clear, Set, Cmp}
 use Rattle.pointer_machine.specs.declared.pointing.Pointing.{Pointing}
 use Rattle.pointer_machine.specs.Operations.{operations}
 use Rattle.pointer_machine.specs.Meaning.{Effect, effect, operated, table_at, meaning}
 use Rattle.instance_report.specs.Runs.{SolvesAllWithin}
-use Rattle.synthesis.specs.Answers.{AreEndsFrom}
+use Rattle.refutation_tree.specs.Accepted.{AreEndsFrom}
 use Rattle.bfgp_tool.specs.Headline.{machine_of, EndsInGoal, AreEndsInGoal, SolvesEach, SolvesEachWithin, FailsOne}
 
 -- ---- what the operations make of a state of a table is one

@@ -15,27 +15,27 @@ use Rattle.instance_report.specs.declared.answer.Report.{Report}
 use Rattle.instance_report.specs.Report.{IsReport}
 use Rattle.instance_report.proofs.Solving.{solved_exactly, unsolved_somewhere}
 use Rattle.synthesis.specs.declared.limits.TheConstants.{BUDGET, RUN_LIMIT}
-use Rattle.synthesis.specs.declared.evidence.Answer.{Answer}
-use Rattle.synthesis.specs.declared.evidence.Outcome.{Outcome}
-use Rattle.synthesis.specs.declared.evidence.Outcome.TheVariants as outcomes
-use Rattle.synthesis.specs.Covers.{nobody}
+use Rattle.refutation_tree.specs.declared.evidence.Answer.{Answer}
+use Rattle.refutation_tree.specs.declared.evidence.Outcome.{Outcome}
+use Rattle.refutation_tree.specs.declared.evidence.Outcome.TheVariants as outcomes
+use Rattle.refutation_tree.specs.Covers.{nobody}
 use Rattle.synthesis.specs.Search.{Setting, plain, Close, found as program_found, run_spent, budget_spent, refuted as size_refuted}
 use Rattle.synthesis.specs.Answers.{IsAnswer, Concludes, Searches, closed, nothing as none_found}
-use Rattle.synthesis.specs.Accepted.{IsShown, IsAccepted, ShowsLeast, NoneSolves}
-use Rattle.synthesis.proofs.Covering.{nobody_is_fair}
-use Rattle.synthesis.proofs.Holding.{shown_least, shown_none}
+use Rattle.refutation_tree.specs.Accepted.{IsShown, IsAccepted, ShowsLeast, NoneSolves}
+use Rattle.refutation_tree.proofs.Covering.{nobody_is_fair}
+use Rattle.refutation_tree.proofs.Holding.{shown_least, shown_none}
 use Rattle.synthesis.proofs.Accepting.{searched_accepted}
 use Rattle.bfgp_tool.specs.declared.input.TheConstants.{MAX_INPUT_BYTES}
 use Rattle.bfgp_tool.specs.declared.job.Job.{Job}
 use Rattle.bfgp_tool.specs.declared.job.Job.TheVariants.{Synth, Run}
 use Rattle.bfgp_tool.specs.declared.job.SynthJob.{SynthJob}
 use Rattle.bfgp_tool.specs.declared.job.RunJob.{RunJob}
-use Rattle.bfgp_tool.specs.declared.reply.Reply.{Reply}
+use Rattle.bfgp_tool.specs.Reply.{Reply}
 use Rattle.bfgp_tool.specs.declared.status.Status.{Status}
 use Rattle.bfgp_tool.specs.declared.status.Status.TheVariants.{Done, No, Usage, Input, SpentExpansions, SpentRun, ReadFault, WriteFault, OutOfMemory}
 use Rattle.bfgp_tool.specs.Words.{JobOf, IsSynthJob, IsJob}
 use Rattle.bfgp_tool.specs.Steps.{goes_on}
-use Rattle.bfgp_tool.specs.Document.{document}
+use Rattle.refutation_tree.specs.Document.{document}
 use Rattle.bfgp_tool.specs.Due.{Due, answer, fault, usage, synth_due, run_due, job_due, status_of, report_status}
 use Rattle.bfgp_tool.specs.Answers.{Writes}
 use Rattle.bfgp_tool.specs.Headline.{Headline, Succeeds, Refutes, Poses, machine_of, FindsLeast, RefutesAll, PosesProgram, ProgramSolves, ProgramFails}

@@ -10,7 +10,7 @@ use Rattle.bfgp_tool.specs.declared.fault.Fault.{Fault}
 use Rattle.bfgp_tool.specs.declared.job.Inputs.{Inputs}
 use Rattle.bfgp_tool.specs.declared.job.Job.{Job}
 use Rattle.bfgp_tool.specs.declared.job.Job.TheVariants.{Synth, Run}
-use Rattle.bfgp_tool.specs.declared.reply.Reply.{Reply}
+use Rattle.bfgp_tool.specs.Reply.{Reply}
 use Rattle.bfgp_tool.specs.declared.status.Status.TheVariants.{Input}
 use Rattle.bfgp_tool.specs.Faults.{reading_fault, parsing_fault, task_fault, ground_fault, machine_fault, program_fault, fault_reply}
 use Rattle.bfgp_tool.specs.Grounding.{IsGroundReply, IsCountReply}

@@ -14,7 +14,6 @@ pub mod OneJob
 pub mod Readings
 pub mod OperationNames
 pub mod Headlines
-pub mod Documents
 pub mod Decided
 pub mod OneReply
 pub mod Written

@@ -1,19 +1,20 @@
 -- What making the machine of a job comes to, from its last step to its first.
-use Rattle.std.proofs.Common.{◌≡◌, ℕ, ◌<◌, ◌≤◌, List, Option, Result, Ok, Err, sym, ap, subst}
+use Rattle.std.proofs.Common.{◌≡◌, ℕ, ◌<◌, ◌≤◌, List, length, Option, Result, Ok, Err, sym, ap, subst}
 use Rattle.std.specs.Prelude.{IfOk, IfErr}
 use Rattle.bfgp_outside.specs.Shelf.{Files, Knowing}
 use Rattle.ground_state.specs.declared.parts.TaskParts.{TaskParts}
 use Rattle.ground_state.specs.Task.{IsTask}
 use Rattle.ground_state.specs.Ground.{Ground}
 use Rattle.program_model.specs.declared.alphabet.TheConstants.{MAX_OPS}
-use Rattle.program_model.specs.declared.machine.TheConstants.{MAX_POINTERS}
+use Rattle.program_model.specs.declared.machine.TheConstants.{MAX_INSTANCES, MAX_POINTERS}
 use Rattle.program_text.specs.Names.{AreNames}
 use Rattle.pointer_machine.specs.Texts.{operation_texts}
 use Rattle.pointer_machine.specs.Operations.{operation_count}
 use Rattle.pointer_machine.specs.Machine.{MachineParts}
+use Rattle.refutation_tree.specs.Grammar.{IsFromOneTo}
 use Rattle.bfgp_tool.specs.declared.domain_reading.Domain.{Domain}
 use Rattle.bfgp_tool.specs.declared.job.Inputs.{Inputs}
-use Rattle.bfgp_tool.specs.declared.reply.Reply.{Reply}
+use Rattle.bfgp_tool.specs.Reply.{Reply}
 use Rattle.bfgp_tool.specs.declared.reply.Halt.{Halt}
 use Rattle.bfgp_tool.specs.Faults.{machine_fault}
 use Rattle.bfgp_tool.specs.Grounding.{IsCountReply}
@@ -74,6 +75,16 @@ module _ (told : Option Files) (inputs : Inputs) (pointers : ℕ) where
 pub all_named : (task : TaskParts) (tables : List Ground) (pointers : ℕ) (r : Result MachineParts Halt) → IsTask task → 0 < pointers → pointers ≤ MAX_POINTERS → IfOk r (λ machine. operation_count task pointers ≤ MAX_OPS) → IfOk r (λ machine. machine ≡ record { task = task; tables = tables; pointers = pointers }) → IfOk r (λ machine. AreNames (operation_texts machine.task machine.pointers))
 all_named task tables pointers (Ok machine) is_task some few count is = subst (λ (m : MachineParts). AreNames (operation_texts m.task m.pointers)) (sym is) (operations-named task pointers is_task some few count)
 all_named task tables pointers (Err halt) is_task some few count is = tt
+
+-- the machine has as many pointers as were asked for
+pub as_many_pointers : (task : TaskParts) (tables : List Ground) (pointers : ℕ) (r : Result MachineParts Halt) → IfOk r (λ machine. machine ≡ record { task = task; tables = tables; pointers = pointers }) → IfOk r (λ machine. machine.pointers ≡ pointers)
+as_many_pointers task tables pointers (Ok machine) is = ap (λ (m : MachineParts). m.pointers) is
+as_many_pointers task tables pointers (Err halt) is = tt
+
+-- and as many instances as there are tables
+pub some_instances : (task : TaskParts) (tables : List Ground) (pointers : ℕ) (r : Result MachineParts Halt) → IsFromOneTo MAX_INSTANCES (length tables) → IfOk r (λ machine. machine ≡ record { task = task; tables = tables; pointers = pointers }) → IfOk r (λ machine. IsFromOneTo MAX_INSTANCES (length machine.tables))
+some_instances task tables pointers (Ok machine) some is = subst (λ (m : MachineParts). IsFromOneTo MAX_INSTANCES (length m.tables)) (sym is) some
+some_instances task tables pointers (Err halt) some is = tt
 
 -- the machine, or the fault that there are too many operations
 pub counted : (inputs : Inputs) (pointers : ℕ) (domain : Domain) (tables : List Ground) (name : List ℕ) (r : Result MachineParts Halt) → name ≡ inputs.domain → IfOk r (λ machine. operation_count domain.task pointers ≤ MAX_OPS) → IfErr r (λ halt. Gives (or_tell name machine_fault (IsCountReply domain.task pointers)) (Err halt)) → IfOk r (λ machine. machine ≡ record { task = domain.task; tables = tables; pointers = pointers }) → Gives (after_tables inputs pointers domain tables) r

@@ -36,7 +36,7 @@ use Rattle.pointer_machine.specs.Operations.{operation_count}
 use Rattle.pointer_machine.specs.Machine.{MachineParts, meaning_of}
 use Rattle.pointer_machine.specs.Texts.{operation_texts}
 use Rattle.synthesis.specs.declared.limits.TheConstants.{BUDGET, RUN_LIMIT}
-use Rattle.synthesis.specs.declared.evidence.Answer.{Answer as SearchAnswer}
+use Rattle.refutation_tree.specs.declared.evidence.Answer.{Answer as SearchAnswer}
 use Rattle.synthesis.specs.Search.{plain}
 use Rattle.synthesis.proofs.SameAnswers.{same_answer}
 use Rattle.bfgp_tool.specs.declared.domain_reading.Domain.{Domain}
@@ -45,11 +45,11 @@ use Rattle.bfgp_tool.specs.declared.fault.Fault.TheVariants as faults
 use Rattle.bfgp_tool.specs.declared.job.Inputs.{Inputs}
 use Rattle.bfgp_tool.specs.declared.job.Job.{Job}
 use Rattle.bfgp_tool.specs.declared.job.Job.TheVariants.{Synth, Run}
-use Rattle.bfgp_tool.specs.declared.reply.Reply.{Reply}
+use Rattle.bfgp_tool.specs.Reply.{Reply}
 use Rattle.bfgp_tool.specs.Words.{IsJob, JobOf}
 use Rattle.bfgp_tool.specs.Faults.{reading_fault, parsing_fault, task_fault, ground_fault, machine_fault, program_fault}
 use Rattle.bfgp_tool.specs.Grounding.{IsGroundReply, IsCountReply}
-use Rattle.bfgp_tool.specs.Document.{document}
+use Rattle.refutation_tree.specs.Document.{document}
 use Rattle.bfgp_tool.specs.Due.{Due, answer, fault, usage, IsWhole, file_due, domain_due, table_due, tables_due, machine_due, answer_due, report_due, job_due, status_of, report_status}
 use Rattle.bfgp_tool.proofs.Held.{machine_held}
 use Rattle.bfgp_tool.proofs.OneJob.{job_kept, JobOf-unique}

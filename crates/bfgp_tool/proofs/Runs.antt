@@ -1,5 +1,5 @@
 -- What `run` comes to, from its last step to its first.
-use Rattle.std.proofs.Common.{◌≡◌, ℕ, List, Option, Result, Ok, Err, subst}
+use Rattle.std.proofs.Common.{◌≡◌, ℕ, Bool, true, false, List, Option, Result, Ok, Err, sym, ◌∙◌, ap, subst}
 use Rattle.std.proofs.lemmas.List.{length-map}
 use Rattle.bfgp_outside.specs.Shelf.{Files, Knowing}
 use Rattle.program_model.specs.Program.{Program, IsProgram}
@@ -10,11 +10,12 @@ use Rattle.pointer_machine.specs.Texts.{form_text, operation_texts}
 use Rattle.instance_report.specs.declared.answer.Report.{Report}
 use Rattle.instance_report.specs.Report.{IsReport}
 use Rattle.bfgp_tool.specs.declared.job.RunJob.{RunJob}
-use Rattle.bfgp_tool.specs.declared.reply.Reply.{Reply}
+use Rattle.bfgp_tool.specs.Reply.{Reply}
 use Rattle.bfgp_tool.specs.declared.reply.Halt.{Halt}
 use Rattle.bfgp_tool.specs.declared.status.Status.{Status}
 use Rattle.bfgp_tool.specs.Steps.{Gives}
 use Rattle.bfgp_tool.specs.Due.{file_due, machine_due, program_due, report_due, report_status, run_due}
+use Rattle.bfgp_tool.specs.Answers.{IsVerdict}
 use Rattle.bfgp_tool.proofs.Chain.{knowing_always, knowing_same, known_next, known_end}
 use Rattle.bfgp_tool.proofs.Sequels.{after_run_machine, after_program_bytes}
 
@@ -56,5 +57,13 @@ program_over machine bytes program reads =
     subst (λ (ops : ℕ). IsProgram ops program) (length-map (operations machine.task machine.pointers) (form_text machine.task)) reads.is_program
 
 -- the reply with the report of a program's runs
-pub report_is_due : (machine : MachineParts) (limit : ℕ) (program : Program) (report : Report) (status : Status) → IsReport (meaning_of machine) program limit report → status ≡ report_status report.all_solved → report_due machine limit program (Ok (record { status = status; text = report.text }))
-report_is_due machine limit program report status is status_is = (report, is, λ i. record { status = status_is i; text = report.text })
+pub report_is_due : (machine : MachineParts) (limit : ℕ) (program : Program) (report : Report) (status : Status) (reply : Reply) → IsReport (meaning_of machine) program limit report → status ≡ report_status report.all_solved
+    → reply ≡ record { status = status; text = report.text } → report_due machine limit program (Ok reply)
+report_is_due machine limit program report status reply is status_is reply_is = (report, is, reply_is ∙ λ i. record { status = status_is i; text = report.text })
+
+report_verdict : (all_solved : Bool) → IsVerdict (report_status all_solved)
+report_verdict true = tt
+report_verdict false = tt
+
+pub reported_verdict : (all_solved : Bool) (status : Status) (text : List ℕ) (reply : Reply) → status ≡ report_status all_solved → reply ≡ record { status = status; text = text } → IsVerdict reply.status
+reported_verdict all_solved status text reply status_is is = subst IsVerdict (sym (ap (λ (r : Reply). r.status) is ∙ status_is)) (report_verdict all_solved)

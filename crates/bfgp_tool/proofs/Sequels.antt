@@ -12,7 +12,7 @@ use Rattle.pointer_machine.specs.Machine.{MachineParts}
 use Rattle.bfgp_tool.specs.declared.job.Inputs.{Inputs}
 use Rattle.bfgp_tool.specs.declared.job.SynthJob.{SynthJob}
 use Rattle.bfgp_tool.specs.declared.job.RunJob.{RunJob}
-use Rattle.bfgp_tool.specs.declared.reply.Reply.{Reply}
+use Rattle.bfgp_tool.specs.Reply.{Reply}
 use Rattle.bfgp_tool.specs.Faults.{task_fault, ground_fault, machine_fault}
 use Rattle.bfgp_tool.specs.Steps.{◌>>=◌, pure, or_tell}
 use Rattle.pddl_task.specs.Replies.{IsTaskReply, IsInstanceReply}

@@ -4,7 +4,7 @@ use Rattle.std.proofs.lemmas.List.{drop_more, drop_all, append-nil, append_assoc
 use Rattle.bfgp_outside.specs.Shelf.{Files, Knowing}
 use Rattle.ground_state.specs.Ground.{Ground}
 use Rattle.bfgp_tool.specs.declared.domain_reading.Domain.{Domain}
-use Rattle.bfgp_tool.specs.declared.reply.Reply.{Reply}
+use Rattle.bfgp_tool.specs.Reply.{Reply}
 use Rattle.bfgp_tool.specs.declared.reply.Halt.{Halt}
 use Rattle.bfgp_tool.specs.declared.reply.Halt.TheVariants.{Early, ReadFault, OutOfMemory}
 use Rattle.bfgp_tool.specs.Steps.{◌>>=◌, goes_on, ends, Gives}

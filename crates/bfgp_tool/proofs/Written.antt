@@ -1,6 +1,6 @@
 -- A reply that was written.
 use Rattle.std.proofs.Common.{◌≢◌, ℕ, List, Option, refl, sym, subst}
-use Rattle.bfgp_tool.specs.declared.reply.Reply.{Reply}
+use Rattle.bfgp_tool.specs.Reply.{Reply}
 use Rattle.bfgp_tool.specs.declared.status.Status.{Status}
 use Rattle.bfgp_tool.specs.declared.status.Status.TheVariants.{Done, No, Usage, Input, SpentExpansions, SpentRun, ReadFault, WriteFault, OutOfMemory}
 use Rattle.bfgp_tool.specs.Answers.{Answers, Replied, IsReplyStatus, Writes}

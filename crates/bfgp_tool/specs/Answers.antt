@@ -5,7 +5,7 @@ use Rattle.bfgp_outside.specs.Sink.{Keeps, Appends, AppendsPrefix}
 use Rattle.bfgp_tool.specs.declared.fault.Fault.{Fault}
 use Rattle.bfgp_tool.specs.declared.fault.Fault.TheVariants as faults
 use Rattle.bfgp_tool.specs.declared.job.Job.{Job}
-use Rattle.bfgp_tool.specs.declared.reply.Reply.{Reply}
+use Rattle.bfgp_tool.specs.Reply.{Reply}
 use Rattle.bfgp_tool.specs.declared.reply.Halt.{Halt}
 use Rattle.bfgp_tool.specs.declared.reply.Halt.TheVariants as halts
 use Rattle.bfgp_tool.specs.declared.status.Status.{Status}

@@ -12,9 +12,9 @@ use Rattle.instance_report.specs.Report.{IsReport}
 use Rattle.pointer_machine.specs.Machine.{MachineParts, meaning_of}
 use Rattle.pointer_machine.specs.Texts.{operation_texts}
 use Rattle.synthesis.specs.declared.limits.TheConstants.{BUDGET, RUN_LIMIT}
-use Rattle.synthesis.specs.declared.evidence.Answer.{Answer}
-use Rattle.synthesis.specs.declared.evidence.Outcome.{Outcome}
-use Rattle.synthesis.specs.declared.evidence.Outcome.TheVariants as outcomes
+use Rattle.refutation_tree.specs.declared.evidence.Answer.{Answer}
+use Rattle.refutation_tree.specs.declared.evidence.Outcome.{Outcome}
+use Rattle.refutation_tree.specs.declared.evidence.Outcome.TheVariants as outcomes
 use Rattle.synthesis.specs.Search.{plain}
 use Rattle.synthesis.specs.Answers.{IsAnswer}
 use Rattle.bfgp_tool.specs.Grounding.{IsGroundReply, IsCountReply}
@@ -25,14 +25,14 @@ use Rattle.bfgp_tool.specs.declared.job.Inputs.{Inputs}
 use Rattle.bfgp_tool.specs.declared.job.SynthJob.{SynthJob}
 use Rattle.bfgp_tool.specs.declared.job.RunJob.{RunJob}
 use Rattle.bfgp_tool.specs.declared.domain_reading.Domain.{Domain}
-use Rattle.bfgp_tool.specs.declared.reply.Reply.{Reply}
+use Rattle.bfgp_tool.specs.Reply.{Reply}
 use Rattle.bfgp_tool.specs.declared.status.Status.{Status}
 use Rattle.bfgp_tool.specs.declared.status.Status.TheVariants.{Done, No, Usage, SpentExpansions, SpentRun}
 use Rattle.bfgp_tool.specs.Words.{JobOf, usage_text}
 use Rattle.bfgp_tool.specs.Faults.{reading_fault, parsing_fault, task_fault, ground_fault, machine_fault, program_fault}
 use Rattle.bfgp_tool.specs.Steps.{◌>>=◌, pure, or_tell}
 use Rattle.pddl_task.specs.Replies.{IsTaskReply, IsInstanceReply}
-use Rattle.bfgp_tool.specs.Document.{document}
+use Rattle.refutation_tree.specs.Document.{document}
 
 -- the bytes of a file that is held and not too long, or why they are not taken
 abbrev pub IsWhole : Files → List ℕ → Result (List ℕ) ReadRefusal → Type 0

@@ -17,7 +17,7 @@ use Rattle.program_text.specs.declared.refusal.ProgramRefusal.{ProgramRefusal}
 use Rattle.program_text.specs.declared.refusal.ProgramRefusal.TheVariants as programs
 use Rattle.bfgp_tool.specs.declared.fault.Fault.{Fault}
 use Rattle.bfgp_tool.specs.declared.fault.Fault.TheVariants.{Absent, TooLong, Byte, Unclosed, Unopened, TooDeep, Shape, Unsupported, Unknown, Twice, Arity, TypeCycle, OtherDomain, NoObject, Limit, Atoms, Operations, ProgramTooLong, NoEnd, Line}
-use Rattle.bfgp_tool.specs.declared.reply.Reply.{Reply}
+use Rattle.bfgp_tool.specs.Reply.{Reply}
 use Rattle.bfgp_tool.specs.declared.reply.Halt.{Halt}
 use Rattle.bfgp_tool.specs.declared.reply.Halt.TheVariants.{Early, ReadFault, OutOfMemory}
 use Rattle.bfgp_tool.specs.declared.status.Status.TheVariants.{Input}

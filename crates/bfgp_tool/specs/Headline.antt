@@ -17,8 +17,8 @@ use Rattle.pointer_machine.specs.Operations.{operations}
 use Rattle.pointer_machine.specs.Meaning.{meaning}
 use Rattle.pointer_machine.specs.Texts.{operation_texts}
 use Rattle.synthesis.specs.declared.limits.TheConstants.{BUDGET, RUN_LIMIT}
-use Rattle.synthesis.specs.declared.evidence.Answer.{Answer}
-use Rattle.synthesis.specs.declared.evidence.Outcome.TheVariants as outcomes
+use Rattle.refutation_tree.specs.declared.evidence.Answer.{Answer}
+use Rattle.refutation_tree.specs.declared.evidence.Outcome.TheVariants as outcomes
 use Rattle.synthesis.specs.Search.{plain}
 use Rattle.synthesis.specs.Answers.{IsAnswer}
 use Rattle.program_text.specs.Reading.{Reads}
@@ -31,7 +31,7 @@ use Rattle.bfgp_tool.specs.declared.status.Status.{Status}
 use Rattle.bfgp_tool.specs.declared.status.Status.TheVariants.{Done, No}
 use Rattle.bfgp_tool.specs.Words.{JobOf}
 use Rattle.pddl_task.specs.Parts.{TaskOf, InstanceOf}
-use Rattle.bfgp_tool.specs.Document.{document}
+use Rattle.refutation_tree.specs.Document.{document}
 
 -- a file holds the text of an instance over a domain
 pub record HoldsInstance (files : Files) (domain : DomainText) (name : List ℕ) (instance : InstanceParts) : Type 0 where

@@ -1,10 +1,11 @@
 pub mod Words
 pub mod Faults
 pub mod Steps
-pub mod Document
 pub mod Due
 pub mod Answers
 pub mod Headline
 pub mod Grounding
 pub mod Domains
 pub mod Exit
+pub mod Reply
+pub mod Body

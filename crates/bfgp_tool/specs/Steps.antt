@@ -1,7 +1,7 @@
 -- The steps of a job, one after another. A step may come to a value, with which the job goes on, or to the reply that
 -- ends the job. What a step may come to is a relation on `Ok` of the value and `Err` of the reply.
 use Rattle.std.specs.Prelude.{◌≡◌, ℕ, List, Option, Result, Ok, Err}
-use Rattle.bfgp_tool.specs.declared.reply.Reply.{Reply}
+use Rattle.bfgp_tool.specs.Reply.{Reply}
 use Rattle.bfgp_tool.specs.declared.reply.Halt.{Halt}
 use Rattle.bfgp_tool.specs.declared.reply.Halt.TheVariants.{Early, ReadFault, OutOfMemory}
 use Rattle.bfgp_tool.specs.declared.fault.Fault.{Fault}

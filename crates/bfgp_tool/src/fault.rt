@@ -186,8 +186,5 @@ fn reply_to(alloc: Global, name: &[u8], fault: Fault) -> Result<Reply, OutOfMemo
     text.append(b" ")?;
     text.append(format!(in alloc; "{fault}")?.as_bytes())?;
     text.push(b'\n')?;
-    Ok(Reply {
-        status: Status::Input,
-        text,
-    })
+    Ok(Reply::of_text(Status::Input, text))
 }

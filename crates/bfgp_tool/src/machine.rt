@@ -6,6 +6,7 @@ ghost use Rattle.program_model.specs.declared.machine.TheConstants.{MAX_INSTANCE
 ghost use Rattle.pointer_machine.specs.Operations.{operation_count};
 ghost use Rattle.pointer_machine.specs.Texts.{operation_texts};
 ghost use Rattle.program_text.specs.Names.{AreNames};
+ghost use Rattle.refutation_tree.specs.Grammar.{IsFromOneTo};
 ghost use Rattle.bfgp_tool.specs.Faults.{machine_fault};
 ghost use Rattle.bfgp_tool.specs.Grounding.{IsCountReply};
 ghost use Rattle.bfgp_tool.specs.Words.{AreInputs};
@@ -37,6 +38,8 @@ pub fn machine_for<S: Shelf>(
     requires few_pointers { pointers ≤ MAX_POINTERS }
     ensures due { Knowing (S.files shelf.old) (λ files. Gives (machine_due files inputs.now pointers) result) }
     ensures names { IfOk result (λ machine. AreNames (operation_texts machine.task machine.pointers)) }
+    ensures pointers { IfOk result (λ machine. machine.pointers ≡ pointers) }
+    ensures instances { IfOk result (λ machine. IsFromOneTo MAX_INSTANCES (length machine.tables)) }
     ensures cause { IfErr result
         (HaltCause (S.faults shelf.old) (S.faults shelf.new) (S.absences shelf.old) (S.absences shelf.new)) }
     ensures goes_on { GoesOn S.files S.faults S.absences shelf.old shelf.new }

@@ -2,7 +2,6 @@
 //! runs programs on them.
 #![tactic(auto)]
 
-mod document;
 mod domain_reading;
 mod fault;
 mod input;

@@ -75,10 +75,7 @@ fn outcome(
     ensures verdict { IfOk result (λ reply. IsVerdict reply.status) }
 {
     let report = report(alloc, machine, program, limit, &mut Meter::zero())?;
-    Ok(Reply {
-        status: status_of(report.all_solved),
-        text: report.text,
-    })
+    Ok(Reply::of_text(status_of(report.all_solved), report.text))
 }
 
 fn status_of(all_solved: bool) -> Status

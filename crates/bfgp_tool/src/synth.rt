@@ -1,12 +1,15 @@
-ghost use Rattle.std.specs.Prelude.{◌≡◌, ◌<◌, ◌≤◌, Ok, IfOk, IfErr};
+ghost use Rattle.std.specs.Prelude.{◌≡◌, ◌<◌, ◌≤◌, length, Ok, IfOk, IfErr};
 ghost use Rattle.bfgp_outside.specs.Shelf.{Knowing, GoesOn};
+ghost use Rattle.program_model.specs.declared.machine.TheConstants.{MAX_INSTANCES, MAX_POINTERS};
+ghost use Rattle.program_text.specs.Names.{AreNames};
+ghost use Rattle.pointer_machine.specs.Texts.{operation_texts};
+ghost use Rattle.refutation_tree.specs.Grammar.{IsFromOneTo};
 ghost use Rattle.bfgp_tool.specs.declared.job.TheConstants.{MAX_LINES_ASKED};
 ghost use Rattle.bfgp_tool.specs.Words.{IsSynthJob};
 ghost use Rattle.bfgp_tool.specs.Steps.{Gives};
 ghost use Rattle.bfgp_tool.specs.Due.{synth_due, answer_due, status_of};
 ghost use Rattle.bfgp_tool.specs.Answers.{HaltCause, IsVerdict};
 
-use crate::document::document;
 use crate::job::SynthJob;
 use crate::machine::machine_for;
 use crate::reply::{Halt, Reply};
@@ -14,8 +17,10 @@ use crate::status::Status;
 use bfgp_outside::Shelf;
 use flag_rules::OutOfMemory;
 use pointer_machine::{Meter, PointerMachine};
+use program_text::Names;
+use refutation_tree::Outcome;
 use std::alloc::Global;
-use synthesis::{Outcome, search};
+use synthesis::search;
 
 /// Searches for a smallest program that solves the instances of a job.
 pub fn synth<S: Shelf>(alloc: Global, shelf: &mut S, job: &SynthJob) -> Result<Reply, Halt>
@@ -32,6 +37,9 @@ pub fn synth<S: Shelf>(alloc: Global, shelf: &mut S, job: &SynthJob) -> Result<R
 
 // The reply with the document of the search's answer.
 fn answer(alloc: Global, machine: &PointerMachine, lines: u8) -> Result<Reply, OutOfMemory>
+    requires names { AreNames (operation_texts machine.now.task machine.now.pointers) }
+    requires pointers { IsFromOneTo MAX_POINTERS machine.now.pointers }
+    requires instances { IsFromOneTo MAX_INSTANCES (length machine.now.tables) }
     requires some { 0 < lines }
     requires few { lines ≤ MAX_LINES_ASKED }
     ensures due { IfOk result (λ reply. answer_due machine.now lines (Ok reply)) }
@@ -39,10 +47,8 @@ fn answer(alloc: Global, machine: &PointerMachine, lines: u8) -> Result<Reply, O
 {
     let answer = search(alloc, machine, lines, &mut Meter::zero())?;
     let texts = machine.op_texts(alloc)?;
-    Ok(Reply {
-        status: status_of(answer.outcome),
-        text: document(alloc, texts.as_slice(), &answer)?,
-    })
+    let names = Names::build(alloc, texts)?;
+    Ok(Reply::of_answer(status_of(answer.outcome), answer, names))
 }
 
 fn status_of(outcome: Outcome) -> Status

@@ -1,4 +1,5 @@
 //! What the tests share: domains, instances and texts that are due, and how a command is run over a shelf.
+mod documents;
 mod faults;
 mod files;
 mod limits;

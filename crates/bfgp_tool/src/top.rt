@@ -13,7 +13,7 @@ use crate::run::run;
 use crate::status::Status;
 use crate::synth::synth;
 use crate::usage::usage;
-use bfgp_outside::{Shelf, Sink, SinkFailed, put_all};
+use bfgp_outside::{Shelf, Sink, SinkFailed};
 use std::alloc::Global;
 
 /// Runs the planner on the words of a command, without the program's own name. It reads the files that the words
@@ -91,8 +91,8 @@ fn write<K: Sink>(out: &mut K, reply: &Reply) -> Status
         (K.written out.old) (K.written out.new) }
     ensures later { K.faults out.old ≤ K.faults out.new }
 {
-    match put_all(out, reply.text.as_slice()) {
-        Ok(()) => reply.status,
+    match reply.write(out) {
+        Ok(()) => reply.status(),
         Err(SinkFailed) => Status::WriteFault,
     }
 }

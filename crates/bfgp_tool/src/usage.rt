@@ -18,8 +18,5 @@ const USAGE: &[u8] =
 pub fn usage(alloc: Global) -> Result<Reply, OutOfMemory>
     ensures { IfOk result (λ reply. reply ≡ usage_reply) }
 {
-    Ok(Reply {
-        status: Status::Usage,
-        text: Text::of(alloc, USAGE)?,
-    })
+    Ok(Reply::of_text(Status::Usage, Text::of(alloc, USAGE)?))
 }

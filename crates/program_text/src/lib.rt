@@ -11,7 +11,7 @@ mod writing;
 
 pub use laws::{one_answer, texts_tell_instructions, written_programs_read_back};
 pub use names::Names;
-pub use reading::{MAX_PROGRAM_TEXT, read_program};
+pub use reading::{MAX_PROGRAM_TEXT, read_instr, read_program};
 pub use refusal::ProgramRefusal;
 pub use writing::{instr_len, write_instr, write_program};
 

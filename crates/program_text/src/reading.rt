@@ -58,7 +58,7 @@ fn program_with_end(names: &Names, lines: &[InstructionLine]) -> Result<Partial,
     let mut program = Partial::empty(count);
     for place in 0..count - 1 {
         let line = &lines[usize::from(place)];
-        match instr_of(names, count, place, line.text.as_slice()) {
+        match read_instr(names, count, place, line.text.as_slice()) {
             Some(instr) => program.define(place, instr),
             None => return Err(ProgramRefusal::Line(line.number)),
         }
@@ -66,8 +66,8 @@ fn program_with_end(names: &Names, lines: &[InstructionLine]) -> Result<Partial,
     Ok(program)
 }
 
-// The instruction with this text in the alphabet of a line that is not the last, if there is one.
-fn instr_of(names: &Names, lines: u8, line: u8, text: &[u8]) -> Option<Instr>
+/// The instruction with this text in the alphabet of a line that is not the last, if there is one.
+pub fn read_instr(names: &Names, lines: u8, line: u8, text: &[u8]) -> Option<Instr>
     requires lines { lines ≤ MAX_LINES }
     requires line { line + 1 < lines }
     ensures some { IfSome result (λ instr. IsInstr (length names.now) lines line instr × (instr_text names.now instr ≡ text.now)) }

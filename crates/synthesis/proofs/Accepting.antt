@@ -2,12 +2,12 @@
 use Rattle.std.proofs.Common.{◌≡◌, ℕ, ◌+◌, ◌<◌, List, [], ◌∷◌, ◌++◌, length, refl, sym, ◌∙◌, ap, subst, arith, length-append}
 use Rattle.program_model.specs.Semantics.{Semantics}
 use Rattle.program_model.specs.Program.{empty}
-use Rattle.synthesis.specs.declared.evidence.Tree.{Tree}
-use Rattle.synthesis.specs.declared.evidence.Answer.{Answer}
-use Rattle.synthesis.specs.Covers.{Skips, IsCovered}
+use Rattle.refutation_tree.specs.declared.evidence.Tree.{Tree}
+use Rattle.refutation_tree.specs.declared.evidence.Answer.{Answer}
+use Rattle.refutation_tree.specs.Covers.{Skips, IsCovered}
 use Rattle.synthesis.specs.Search.{Setting, Node, Close, found, run_spent, budget_spent, refuted, SearchesSize}
 use Rattle.synthesis.specs.Answers.{tree_of, RefutesSizes, none, next, Concludes, Searches, closed, nothing, IsAnswer}
-use Rattle.synthesis.specs.Accepted.{CoverSizes, CoverBelow, IsShown, IsAccepted}
+use Rattle.refutation_tree.specs.Accepted.{CoverSizes, CoverBelow, IsShown, IsAccepted}
 use Rattle.synthesis.proofs.Growing.{empty_alone, size_grown}
 use Rattle.synthesis.proofs.Marking.{refuted_covers, first_limited_within}
 use Rattle.synthesis.proofs.FilledPrograms.{found_sized, filled_is_program}

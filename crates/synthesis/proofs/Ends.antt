@@ -10,17 +10,16 @@ use Rattle.program_model.specs.Verdict.{Stood, IsStood, AreStoodFrom, Verdict, r
 use Rattle.program_model.proofs.Runs.{at-extends}
 use Rattle.program_model.proofs.Standings.{same_standing}
 use Rattle.program_model.proofs.Verdicts.{joined, verdict-cons}
-use Rattle.synthesis.specs.Answers.{AreEndsFrom}
+use Rattle.refutation_tree.specs.Accepted.{AreEndsFrom}
 
--- the runs of a program that extends another end where those of the other do
+-- the run of a program that extends another ends where that of the other does
+pub end_extends : {C : Type 0} (m : Semantics C) (p q : Program) (t j : ℕ) → Ends m q t j → Extends p q → Ends m p t j
+end_extends m p q t j end extends = record { config = end.config; comes = at-extends m p q t j end.config extends end.comes; last = end.last ∙ sym extends.size; lacks = end.lacks }
+
+-- so do the runs on all instances
 pub ends_extend : {C : Type 0} (m : Semantics C) (p q : Program) (t : ℕ) (js : List ℕ) → AreEndsFrom m q t js → Extends p q → AreEndsFrom m p t js
 ends_extend m p q t [] ends extends = ends
-ends_extend m p q t (j ∷ js) ends extends =
-    let end = ends.1 in (
-      ends.0,
-      record { config = end.config; comes = at-extends m p q t j end.config extends end.comes; last = end.last ∙ sym extends.size; lacks = end.lacks },
-      ends_extend m p q (t + 1) js ends.2 extends,
-    )
+ends_extend m p q t (j ∷ js) ends extends = (ends.0, end_extends m p q t j ends.1 extends, ends_extend m p q (t + 1) js ends.2 extends)
 
 joined_solved : (x : Stood) (s : Standing) (v : Verdict) → joined x s v ≡ solved → (s ≡ ended) × (v ≡ solved)
 joined_solved x ended v e = (refl, e)
@@ -37,7 +36,7 @@ joined_solved x at_limit solved e = absurd (cc)
 
 module _ {C : Type 0} (m : Semantics C) (q : Program) (partial : IsPartial m.ops q) (limit : ℕ) where
   -- where all runs ended, so did that on each instance
-  ended_at : (t : ℕ) (runs : List Stood) → AreStoodFrom m q limit t runs → verdict runs ≡ solved → (s : ℕ) → t ≤ s → s < m.instances → (steps : ℕ) × IsStanding m q s limit steps ended
+  pub ended_at : (t : ℕ) (runs : List Stood) → AreStoodFrom m q limit t runs → verdict runs ≡ solved → (s : ℕ) → t ≤ s → s < m.instances → (steps : ℕ) × IsStanding m q s limit steps ended
   ended_at t [] stood is s l below = absurd (omega arith)
   ended_at t (x ∷ xs) stood is s l below =
       let both = joined_solved x x.standing (verdict xs) (sym (verdict-cons x xs) ∙ is) in

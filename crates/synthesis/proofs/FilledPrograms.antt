@@ -12,7 +12,7 @@ use Rattle.program_model.specs.Verdict.{refused, limited, waiting, solved}
 use Rattle.program_model.proofs.Places.{contains_at}
 use Rattle.program_model.proofs.Alphabets.{alphabet-inner, get-inner_op}
 use Rattle.program_model.proofs.Programs.{line_at-past, line_within, length-empty, partial_empty, partial_with_line, open_is_not_last}
-use Rattle.synthesis.specs.Covers.{Child}
+use Rattle.refutation_tree.specs.Covers.{Child}
 use Rattle.synthesis.specs.Search.{Setting, State, judged, split, twin, Node, solved_program, or_else, first_solved, SearchesSize, found}
 use Rattle.synthesis.specs.Answers.{Fills}
 use Rattle.synthesis.proofs.Lists.{each_both}

@@ -5,7 +5,7 @@ use Rattle.program_model.specs.declared.instr.Instr.{Instr}
 use Rattle.program_model.specs.Alphabet.{alphabet}
 use Rattle.program_model.specs.Program.{Program, empty, with_line, IsOpen}
 use Rattle.program_model.specs.Verdict.{Stood, AreStood, waiting, verdict}
-use Rattle.synthesis.specs.Covers.{Child, children}
+use Rattle.refutation_tree.specs.Covers.{Child, children}
 use Rattle.synthesis.specs.Search.{Setting, State, judged, split, twin, Node, IsJudged, IsRoot, AreChildren, Splits, Leads, here, next, Close, SearchesSize}
 use Rattle.synthesis.proofs.Lists.{split_at}
 use Rattle.synthesis.proofs.Judging.{waiting_is_open}

@@ -1,6 +1,4 @@
 pub mod Lists
-pub mod Covering
-pub mod Holding
 pub mod Judging
 pub mod Growing
 pub mod Marking
@@ -21,3 +19,5 @@ pub mod SplitNodes
 pub mod SizeSteps
 pub mod SoundEndings
 pub mod SizesInTurn
+pub mod Stamps
+pub mod Grammatical

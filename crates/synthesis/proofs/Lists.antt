@@ -1,26 +1,12 @@
 -- What holds of each element of a list, and lists about a place.
-use Rattle.std.proofs.Common.{◌≡◌, ℕ, zero, suc, ◌+◌, List, [], ◌∷◌, ◌++◌, Some, take, drop, refl, ap, subst, arith}
+use Rattle.std.proofs.Common.{◌≡◌, ℕ, zero, suc, ◌+◌, List, [], ◌∷◌, ◌++◌, Some, take, drop, refl, ap, arith}
 use Rattle.std.specs.Prelude.{slice_get}
 use Rattle.std.specs.List.{AllByRecursion as Each}
 use Rattle.std.proofs.lemmas.Option.{same_Some, none-some}
 
-module _ {X : Type 0} (P : X → Type 0) where
-  pub each_left : (xs ys : List X) → Each P (xs ++ ys) → Each P xs
-  each_left [] ys h = tt
-  each_left (x ∷ xs) ys h = (h.0, each_left xs ys h.1)
-
-  pub each_right : (xs ys : List X) → Each P (xs ++ ys) → Each P ys
-  each_right [] ys h = h
-  each_right (x ∷ xs) ys h = each_right xs ys h.1
-
-  pub each_both : (xs ys : List X) → Each P xs → Each P ys → Each P (xs ++ ys)
-  each_both [] ys h k = k
-  each_both (x ∷ xs) ys h k = (h.0, each_both xs ys h.1 k)
-
-  pub each_at : (xs : List X) (i : ℕ) (x : X) → slice_get xs i ≡ Some x → Each P xs → P x
-  each_at [] i x e h = absurd (none-some x e)
-  each_at (y ∷ ys) zero x e h = subst P (same_Some y x e) h.0
-  each_at (y ∷ ys) (suc i) x e h = each_at ys i x e h.1
+pub each_both : {X : Type 0} (P : X → Type 0) (xs ys : List X) → Each P xs → Each P ys → Each P (xs ++ ys)
+each_both P [] ys h k = k
+each_both P (x ∷ xs) ys h k = (h.0, each_both P xs ys h.1 k)
 
 pub each_more : {X : Type 0} (P Q : X → Type 0) (xs : List X) → ((x : X) → P x → Q x) → Each P xs → Each Q xs
 each_more P Q [] f h = tt

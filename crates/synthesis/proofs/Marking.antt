@@ -7,8 +7,8 @@ use Rattle.std.proofs.lemmas.Option.{none-some, same_Some}
 use Rattle.program_model.specs.Program.{empty}
 use Rattle.program_model.specs.Standing.{Standing, ended, unmet, waits, loops, at_limit, IsStanding}
 use Rattle.program_model.specs.Verdict.{refused, limited, waiting, solved, is_refuting}
-use Rattle.synthesis.specs.declared.evidence.Mark.{Mark}
-use Rattle.synthesis.specs.Covers.{Child, Covers, IsCovered}
+use Rattle.refutation_tree.specs.declared.evidence.Mark.{Mark}
+use Rattle.refutation_tree.specs.Covers.{Child, Covers, IsCovered}
 use Rattle.synthesis.specs.Search.{Setting, State, judged, split, twin, Node, waits_at, is_waiting, solved_program, limited_at, or_else, first_solved, first_limited, refusal_mark, mark_of, SearchesSize, refuted}
 use Rattle.synthesis.proofs.Judging.{refused_stands, limited_within}
 use Rattle.synthesis.proofs.Growing.{followers, HasState, AreGrown, empty_alone, size_grown}

@@ -7,7 +7,8 @@ use Rattle.program_model.specs.declared.instr.Instr.{Instr}
 use Rattle.program_model.specs.Alphabet.{alphabet}
 use Rattle.program_model.specs.Program.{Program}
 use Rattle.synthesis.specs.Search.{Setting, split, Node, IsRoot, AreChildren, Splits}
-use Rattle.synthesis.proofs.Lists.{each_left, each_right, each_both, each_at, each_more, split_at}
+use Rattle.refutation_tree.proofs.Lists.{each_left, each_right, each_at}
+use Rattle.synthesis.proofs.Lists.{each_both, each_more, split_at}
 
 -- no node has the number
 abbrev Apart : ℕ → List Node → Type 0

@@ -4,10 +4,11 @@ use Rattle.std.proofs.lemmas.Bool.{cases_eq, cases_order}
 use Rattle.program_model.specs.Semantics.{Semantics}
 use Rattle.program_model.specs.Program.{Program, IsPartial}
 use Rattle.program_model.proofs.Runs.{same_end}
-use Rattle.synthesis.specs.declared.evidence.Tree.{Tree}
-use Rattle.synthesis.specs.declared.evidence.Answer.{Answer}
+use Rattle.refutation_tree.specs.declared.evidence.Tree.{Tree}
+use Rattle.refutation_tree.specs.declared.evidence.Answer.{Answer}
+use Rattle.refutation_tree.specs.Accepted.{AreEndsFrom}
 use Rattle.synthesis.specs.Search.{Setting, Node, Close, found, run_spent, budget_spent, refuted, SearchesSize}
-use Rattle.synthesis.specs.Answers.{RefutesSizes, none, next, AreEndsFrom, Concludes, Searches, closed, nothing, IsAnswer}
+use Rattle.synthesis.specs.Answers.{RefutesSizes, none, next, Concludes, Searches, closed, nothing, IsAnswer}
 use Rattle.synthesis.proofs.FilledPrograms.{found_sized, filled_is_partial, same_fill}
 use Rattle.synthesis.proofs.SameSizes.{same_size}
 

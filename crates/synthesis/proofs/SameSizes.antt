@@ -9,7 +9,8 @@ use Rattle.program_model.specs.Alphabet.{alphabet}
 use Rattle.program_model.specs.Verdict.{waiting}
 use Rattle.program_model.proofs.Places.{contains_at}
 use Rattle.synthesis.specs.Search.{Setting, judged, split, Node, is_waiting, comes_before, IsRoot, AreChildren, Splits, Close, found, run_spent, budget_spent, refuted, Closes, StaysOpen, Leads, here, next, SearchesSize}
-use Rattle.synthesis.proofs.Lists.{each_left, each_right, each_more}
+use Rattle.refutation_tree.proofs.Lists.{each_left, each_right}
+use Rattle.synthesis.proofs.Lists.{each_more}
 use Rattle.synthesis.proofs.Growing.{empty_alone, root_grown, leads_grown}
 use Rattle.synthesis.proofs.FilledPrograms.{IsSized, nodes_sized, empty_sized}
 use Rattle.synthesis.proofs.SameNodes.{HasPartial, same_root, same_children}

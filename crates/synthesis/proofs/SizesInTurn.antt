@@ -2,13 +2,14 @@
 use Rattle.std.proofs.Common.{◌≡◌, ℕ, ◌+◌, ◌<◌, List, [], ◌∷◌, ◌++◌, Option, Some, None, sym, ◌∙◌, ap, subst}
 use Rattle.std.specs.Prelude.{Result, Ok, Err, IfOk}
 use Rattle.program_model.specs.Program.{Program}
-use Rattle.synthesis.specs.declared.evidence.Tree.{Tree}
-use Rattle.synthesis.specs.declared.evidence.Outcome.TheVariants as outcomes
-use Rattle.synthesis.specs.declared.evidence.Answer.{Answer}
+use Rattle.refutation_tree.specs.declared.evidence.Tree.{Tree}
+use Rattle.refutation_tree.specs.declared.evidence.Outcome.TheVariants as outcomes
+use Rattle.refutation_tree.specs.declared.evidence.Answer.{Answer}
+use Rattle.refutation_tree.specs.Accepted.{AreEndsFrom}
 use Rattle.synthesis.specs.declared.turn.Ending.{Ending}
 use Rattle.synthesis.specs.declared.turn.Ending.TheVariants as endings
 use Rattle.synthesis.specs.Search.{Setting, Node, SearchesSize}
-use Rattle.synthesis.specs.Answers.{tree_of, RefutesSizes, none, next, Fills, AreEndsFrom, Concludes, closed, nothing, IsAnswer}
+use Rattle.synthesis.specs.Answers.{tree_of, RefutesSizes, none, next, Fills, Concludes, closed, nothing, IsAnswer}
 use Rattle.synthesis.specs.Nodes.{close_of}
 use Rattle.synthesis.proofs.Ends.{ends_extend}
 

@@ -1,12 +1,11 @@
 -- The answer of a search over all sizes.
 use Rattle.std.specs.Prelude.{◌≡◌, ℕ, ◌+◌, ◌<◌, List, [], ◌∷◌, ◌++◌, map, length, slice_get, Some, None}
 use Rattle.program_model.specs.Alphabet.{alphabet}
-use Rattle.program_model.specs.Semantics.{Semantics}
 use Rattle.program_model.specs.Program.{Program, line_at, IsOpen, Extends}
-use Rattle.program_model.specs.Run.{Ends}
-use Rattle.synthesis.specs.declared.evidence.Tree.{Tree}
-use Rattle.synthesis.specs.declared.evidence.Outcome.TheVariants as outcomes
-use Rattle.synthesis.specs.declared.evidence.Answer.{Answer}
+use Rattle.refutation_tree.specs.declared.evidence.Tree.{Tree}
+use Rattle.refutation_tree.specs.declared.evidence.Outcome.TheVariants as outcomes
+use Rattle.refutation_tree.specs.declared.evidence.Answer.{Answer}
+use Rattle.refutation_tree.specs.Accepted.{AreEndsFrom}
 use Rattle.synthesis.specs.Search.{Setting, Node, Close, found, run_spent, budget_spent, refuted, SearchesSize, mark_of}
 
 -- the tree of a size: the marks of its nodes, which stand in preorder
@@ -22,11 +21,6 @@ pub data RefutesSizes {C : Type 0} (s : Setting C) (budget : ℕ) : ℕ → ℕ 
 pub record Fills (ops : ℕ) (q p : Program) : Type 0 where
   pub extends : Extends p q
   pub filled : (line : ℕ) → IsOpen q line → line_at p line ≡ slice_get (alphabet ops (length q) line) 0
-
--- the steps after which a program's runs end with the goal met, on the instances from t on
-abbrev pub AreEndsFrom : {C : Type 0} → Semantics C → Program → ℕ → List ℕ → Type 0
-AreEndsFrom m p t [] = t ≡ m.instances
-AreEndsFrom m p t (j ∷ js) = (t < m.instances) × Ends m p t j × AreEndsFrom m p (t + 1) js
 
 -- what an answer says where a size was closed so: it has a program, with its runs' ends, exactly where one was found
 abbrev pub Concludes : {C : Type 0} → Setting C → ℕ → Close → Answer → Type 0

@@ -8,9 +8,9 @@ use Rattle.program_model.specs.Semantics.{Semantics}
 use Rattle.program_model.specs.Program.{Program, empty, with_line}
 use Rattle.program_model.specs.Standing.{Standing, ended, unmet, waits, loops, at_limit}
 use Rattle.program_model.specs.Verdict.{Stood, AreStood, Verdict, refused, limited, waiting, solved, verdict}
-use Rattle.synthesis.specs.declared.evidence.Mark.{Mark}
-use Rattle.synthesis.specs.declared.evidence.Mark.TheVariants as marks
-use Rattle.synthesis.specs.Covers.{Skips, nobody}
+use Rattle.refutation_tree.specs.declared.evidence.Mark.{Mark}
+use Rattle.refutation_tree.specs.declared.evidence.Mark.TheVariants as marks
+use Rattle.refutation_tree.specs.Covers.{Skips, nobody}
 
 -- what a search is over: a machine, the limit of steps of a run, the key of a waiting node by its program and its runs, and
 -- which children are passed over

@@ -3,8 +3,8 @@ ghost use Rattle.program_model.specs.Semantics.{Semantics};
 ghost use Rattle.program_model.specs.Program.{IsPartial};
 ghost use Rattle.program_model.specs.Verdict.{Stood, AreStood, is_refuting, solved, verdict as verdict_on};
 ghost use Rattle.interpreter.specs.Standings.{standing_of};
+ghost use Rattle.refutation_tree.specs.Accepted.{AreEndsFrom};
 ghost use Rattle.synthesis.specs.Standings.{stood_of, verdict_of, IsVerdictOn, IsVerdictFrom};
-ghost use Rattle.synthesis.specs.Answers.{AreEndsFrom};
 
 use crate::standing::{RunOutcome, Verdict};
 use flag_rules::{List, OutOfMemory};

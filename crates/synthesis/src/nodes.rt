@@ -7,10 +7,10 @@ ghost use Rattle.synthesis.specs.declared.nodes.Entry.{Entry};
 ghost use Rattle.synthesis.specs.Nodes.{state_of, node_of};
 
 use crate::standing::{RunOutcome, Verdict};
-use crate::{Mark, Tree};
 use flag_rules::{List, OutOfMemory};
 use interpreter::Stand;
 use program_model::Partial;
+use refutation_tree::{Mark, Tree};
 use std::alloc::Global;
 
 /// What became of a node of the search.

@@ -3,7 +3,6 @@ ghost use Rattle.synthesis.specs.Search.{plain};
 ghost use Rattle.synthesis.specs.Answers.{Concludes, IsAnswer};
 ghost use Rattle.synthesis.specs.Nodes.{close_of, IsEndingOn};
 
-use crate::evidence::{Answer, Outcome, Tree};
 use crate::fill::filled;
 use crate::judgement::ends_of;
 use crate::limits::{BUDGET, RUN_LIMIT};
@@ -13,6 +12,7 @@ use crate::size::Searched;
 use crate::turn::Ending;
 use flag_rules::{List, OutOfMemory};
 use program_model::{MAX_LINES, Machine, Partial};
+use refutation_tree::{Answer, Outcome, Tree};
 use std::alloc::Global;
 
 /// Searches for a smallest program of at most so many lines that solves every instance of a machine.

@@ -1,5 +1,6 @@
 use crate::counter::{Counter, Tally};
-use crate::{Mark, Outcome, search};
+use crate::search;
+use refutation_tree::{Mark, Outcome};
 use std::test::Fail;
 
 // The run that counts on and on reaches its limit; the first child of the split at which that happens names the instance.

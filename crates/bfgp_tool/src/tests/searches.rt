@@ -18,7 +18,7 @@ const CELLS: &str = "(define (domain cells) (:types cell - place) (:predicates (
 const ONE_CELL: &str = "(define (problem p) (:domain cells) (:objects a - cell) (:goal (seen a)))";
 
 // A light is lit by one operation.
-const LIT_IN_TWO_LINES: &str = "bfgp answer 1
+pub const LIT_IN_TWO_LINES: &str = "bfgp answer 1
 pointers 1
 lines 3
 instances 1

@@ -1,7 +1,7 @@
-use Rattle.std.proofs.Common.{Err}
+use Rattle.std.proofs.Common.{length, Err, ap, arith}
 use Rattle.std.proofs.lemmas.Result.{err_from_is_err_and}
 use Rattle.pddl_task.proofs.TaskFits.{task-fits}
-use Rattle.bfgp_tool.proofs.Machines.{from_bytes, at_bytes, from_domain, at_domain, from_tables, at_tables, all_named, counted}
+use Rattle.bfgp_tool.proofs.Machines.{from_bytes, at_bytes, from_domain, at_domain, from_tables, at_tables, all_named, as_many_pointers, some_instances, counted}
 use Rattle.bfgp_tool.proofs.machine.machine_for.Goals as goal
 
 pub returns-in_err-bytes-clause-due : goal.returns-in_err-bytes-clause-due
@@ -46,3 +46,14 @@ returns-clause-names g c =
     let domain = c.in_ok-domain.domain in
     let read = c.in_ok-domain.ensures.read in
     all_named domain.task c.in_ok-tables.tables c.args.pointers c.machine_of.result (task-fits domain.text domain.task read.text read.task) c.requires.some_pointers c.requires.few_pointers c.machine_of.ensures.few c.machine_of.ensures.machine
+
+pub returns-clause-pointers : goal.returns-clause-pointers
+returns-clause-pointers g c =
+    as_many_pointers c.in_ok-domain.domain.task c.in_ok-tables.tables c.args.pointers c.machine_of.result c.machine_of.ensures.machine
+
+pub returns-clause-instances : goal.returns-clause-instances
+returns-clause-instances g c =
+    let count = c.in_ok-tables.ensures.count in
+    let names = ap length c.as_slice-2.ensures in
+    let inputs = c.requires.inputs in
+    some_instances c.in_ok-domain.domain.task c.in_ok-tables.tables c.args.pointers c.machine_of.result (omega (arith, count, names), omega (arith, count, names)) c.machine_of.ensures.machine

@@ -1,4 +1,4 @@
-use Rattle.std.proofs.Common.{Ok}
+use Rattle.std.proofs.Common.{Ok, arith}
 use Rattle.std.proofs.lemmas.Result.{err_from_is_err_and}
 use Rattle.bfgp_outside.specs.Shelf.{Files}
 use Rattle.bfgp_tool.specs.Steps.{Gives}
@@ -21,3 +21,9 @@ returns-clause-due g c =
     let reply = c.in_ok-answer.field-0 in
     known_next told (λ files. machine_due files job.inputs job.pointers) (λ files. after_search_machine job) machine (Ok reply) c.in_ok-machine.ensures.due
     (knowing_always told (λ (files : Files). Gives (after_search_machine job machine) (Ok reply)) (λ files. c.in_ok-answer.ensures.due))
+
+pub answer-requires-clause-pointers : goal.answer-requires-clause-pointers
+answer-requires-clause-pointers g c =
+    let same = c.in_ok-machine.ensures.pointers in
+    let job = c.requires in
+    (omega (arith, same), omega (arith, same))

@@ -1,5 +1,5 @@
 use Rattle.std.proofs.Common.{ℕ, List, ◌++◌}
-use Rattle.synthesis.specs.Answers.{AreEndsFrom}
+use Rattle.refutation_tree.specs.Accepted.{AreEndsFrom}
 use Rattle.synthesis.proofs.judgement.ends_of.Given as goal
 
 abbrev pub invariant-loop-t : goal.invariant-loop-t

@@ -1,6 +1,6 @@
 use Rattle.std.proofs.Common.{◌∙◌, List, ap}
-use Rattle.synthesis.specs.declared.evidence.Mark.{Mark}
-use Rattle.synthesis.specs.declared.evidence.Tree.{Tree}
+use Rattle.refutation_tree.specs.declared.evidence.Mark.{Mark}
+use Rattle.refutation_tree.specs.declared.evidence.Tree.{Tree}
 use Rattle.synthesis.proofs.MarksOfNodes.{marks_of_nodes}
 use Rattle.synthesis.proofs.nodes.tree_of.Goals as goal
 

@@ -1,7 +1,7 @@
 use Rattle.std.proofs.Common.{◌≡◌, ◌∙◌, ◌++◌, ◌∷◌, [], None, refl, ap, arith}
-use Rattle.synthesis.specs.declared.evidence.Answer.{Answer}
-use Rattle.synthesis.specs.declared.evidence.Outcome.TheVariants.{Nothing}
-use Rattle.synthesis.specs.declared.evidence.Tree.{Tree}
+use Rattle.refutation_tree.specs.declared.evidence.Answer.{Answer}
+use Rattle.refutation_tree.specs.declared.evidence.Outcome.TheVariants.{Nothing}
+use Rattle.refutation_tree.specs.declared.evidence.Tree.{Tree}
 use Rattle.synthesis.specs.Search.{plain}
 use Rattle.synthesis.specs.Nodes.{nodes_of}
 use Rattle.synthesis.proofs.SoundEndings.{sound_ending}

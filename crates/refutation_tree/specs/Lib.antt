@@ -1,0 +1,11 @@
+pub mod Document
+pub mod Grammar
+pub mod Covers
+pub mod Accepted
+pub mod Reading
+pub mod Cuts
+pub mod Unread
+pub mod LineFacts
+pub mod Following
+pub mod ReadingOn
+pub mod Pending
