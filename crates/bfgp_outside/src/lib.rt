@@ -16,6 +16,3 @@ pub use real::{RealShelf, RealSink};
 pub use shelf::{Shelf, ShelfFault};
 pub use sink::{Sink, SinkFailed};
 pub use whole::{ReadRefusal, read_whole};
-
-#[cfg(test)]
-mod tests;

@@ -10,6 +10,3 @@ pub use flags::{Cond, Sign, sign_of};
 pub use list::List;
 pub use memory::OutOfMemory;
 pub use text::Text;
-
-#[cfg(test)]
-mod tests;

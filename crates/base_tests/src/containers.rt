@@ -1,4 +1,4 @@
-use crate::{List, OutOfMemory, Text};
+use flag_rules::{List, OutOfMemory, Text};
 
 #[test]
 fn lists_and_texts_grow_with_ample_memory(rt: HostRuntime) -> Result<(), OutOfMemory> {

@@ -1,4 +1,6 @@
-use crate::{MemoryShelf, MemorySink, ReadRefusal, RealShelf, RealSink, put_all, read_whole};
+use bfgp_outside::{
+    MemoryShelf, MemorySink, ReadRefusal, RealShelf, RealSink, put_all, read_whole,
+};
 use std::fs;
 use std::test::Fail;
 
