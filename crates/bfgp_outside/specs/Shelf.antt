@@ -1,6 +1,6 @@
 -- What a shelf holds, what a read of it gives, and when a read fails.
-use Rattle.std.specs.Prelude.{◌≡◌, ◌↔◌, ◌⊎◌, ℕ, ◌≤◌, List, length, take, drop, Option, Some, None, Result, Ok, Err}
-use Rattle.bfgp_outside.specs.Causes.{Rose}
+use Rattle.std.specs.Prelude.{◌≡◌, ◌↔◌, ◌⊎◌, ℕ, ◌≤◌, Bool, true, false, List, ◌++◌, length, take, drop, replicate, Option, Some, None, Result, Ok, Err}
+use Rattle.bfgp_outside.specs.Causes.{RoseIf}
 use Rattle.bfgp_outside.specs.declared.shelf.ShelfFault.{ShelfFault}
 use Rattle.bfgp_outside.specs.declared.shelf.ShelfFault.TheVariants.{Absent, Failed}
 
@@ -30,13 +30,35 @@ ReadsHeld held from (Err Absent) into = held ≡ None
 ReadsHeld None from (Ok m) into = ⊥
 ReadsHeld (Some bytes) from (Ok m) into = GivesBytes bytes from m into
 
--- the count that belongs to a fault rose
-abbrev pub FaultRose : (faults faults_now absences absences_now : ℕ) → ShelfFault → Type 0
-FaultRose faults faults_now absences absences_now Failed = Rose faults faults_now
-FaultRose faults faults_now absences absences_now Absent = Rose absences absences_now
+-- whether a failed read is told
+abbrev pub is_failed : Option ShelfFault → Bool
+is_failed (Some Failed) = true
+is_failed (Some Absent) = false
+is_failed None = false
+
+-- whether an absent file is told
+abbrev pub is_absent : Option ShelfFault → Bool
+is_absent (Some Absent) = true
+is_absent (Some Failed) = false
+is_absent None = false
+
+-- the counts over a call that tells a fault, or none: the count of the fault that is told rose, and the other stands still
+pub record CountsFaults {S : Type 0} (faults absences : S → ℕ) (old new : S) (told : Option ShelfFault) : Type 0 where
+  pub failed : RoseIf (is_failed told) (faults old) (faults new)
+  pub absent : RoseIf (is_absent told) (absences old) (absences new)
 
 -- no call changes a file, and no count falls
 pub record GoesOn {S : Type 0} (files : S → Option Files) (faults absences : S → ℕ) (old new : S) : Type 0 where
   pub kept : files new ≡ files old
   pub faults_later : faults old ≤ faults new
   pub absences_later : absences old ≤ absences new
+
+-- the names that a shelf was asked for grew by this one, so many times, where the shelf tells them
+abbrev pub AsksFor : (before now : Option (List (List ℕ))) → List ℕ → ℕ → Type 0
+AsksFor None now name times = Unit {0}
+AsksFor (Some names) None name times = ⊥
+AsksFor (Some names) (Some more) name times = more ≡ names ++ replicate times name
+
+-- a call asked for no other name than this
+abbrev pub Asks : (before now : Option (List (List ℕ))) → List ℕ → Type 0
+Asks before now name = (times : ℕ) × AsksFor before now name times

@@ -1,6 +1,5 @@
 -- What reading a whole file gives.
 use Rattle.std.specs.Prelude.{◌≡◌, ℕ, List, length, Option, Some, None, Result, Ok, Err, nat_lt, if◌then◌else◌}
-use Rattle.bfgp_outside.specs.Causes.{Rose}
 use Rattle.bfgp_outside.specs.declared.shelf.ShelfFault.{ShelfFault}
 use Rattle.bfgp_outside.specs.declared.shelf.ShelfFault.TheVariants.{Absent as AbsentFault, Failed as FailedFault}
 use Rattle.bfgp_outside.specs.declared.whole.ReadRefusal.{ReadRefusal}
@@ -18,12 +17,13 @@ RefusesAs TooLong whole = whole ≡ Err TooLong
 RefusesAs Failed whole = Unit {0}
 RefusesAs OutOfMemory whole = Unit {0}
 
--- the count that belongs to a refusal rose, where it has one
-abbrev pub RefusalRose : (faults faults_now absences absences_now : ℕ) → ReadRefusal → Type 0
-RefusalRose faults faults_now absences absences_now Failed = Rose faults faults_now
-RefusalRose faults faults_now absences absences_now Absent = Rose absences absences_now
-RefusalRose faults faults_now absences absences_now TooLong = Unit {0}
-RefusalRose faults faults_now absences absences_now OutOfMemory = Unit {0}
+-- the fault of the shelf that an answer tells, if it tells one
+abbrev pub fault_told : {T : Type 0} → Result T ReadRefusal → Option ShelfFault
+fault_told (Ok value) = None
+fault_told (Err Absent) = Some AbsentFault
+fault_told (Err Failed) = Some FailedFault
+fault_told (Err TooLong) = None
+fault_told (Err OutOfMemory) = None
 
 -- the refusal that hands a fault of the shelf on
 abbrev pub refusal_of : ShelfFault → ReadRefusal

@@ -109,7 +109,7 @@ fn copy_from(bytes: &[u8], from: u64, into: &mut [u8]) -> usize
 }
 
 impl Shelf for MemoryShelf {
-    ghost use Rattle.std.specs.Prelude.{Some};
+    ghost use Rattle.std.specs.Prelude.{Some, None};
     ghost use Rattle.std.specs.FinMap.{get};
 
     ghost files = { λ shelf. Some (get shelf.held) };
@@ -117,6 +117,8 @@ impl Shelf for MemoryShelf {
     ghost faults = { λ shelf. shelf.faults };
 
     ghost absences = { λ shelf. shelf.absences };
+
+    ghost asked = { λ _. None };
 
     /// Reads a file that is held, as many bytes as there is room for. It fails where the read's number
     /// was given to `fail_at`.

@@ -77,6 +77,8 @@ impl<'a, R: Files> Shelf for RealShelf<'a, R> {
 
     ghost absences = { λ shelf. shelf.absences };
 
+    ghost asked = { λ _. None };
+
     /// Reads a file of the system. A name that is not UTF-8 is a failed read.
     fn read_at(&mut self, name: &[u8], from: u64, into: &mut [u8]) -> Result<usize, ShelfFault> {
         let answer = read_file(self.system, name, from, into);

@@ -1,5 +1,6 @@
-ghost use Rattle.std.specs.Prelude.{ℕ, ◌≤◌, length, Option, IfOk, IfErr};
-ghost use Rattle.bfgp_outside.specs.Shelf.{Files, Told, ReadsHeld, FaultRose, GoesOn};
+ghost use Rattle.std.specs.Prelude.{ℕ, ◌≤◌, List, length, Option, IfOk};
+ghost use Rattle.std.specs.Result.{result_err};
+ghost use Rattle.bfgp_outside.specs.Shelf.{Files, Told, ReadsHeld, CountsFaults, GoesOn, AsksFor};
 
 use thiserror::Error;
 
@@ -25,11 +26,14 @@ pub trait Shelf {
     /// How many calls asked for a file that is not held. It stands still at the last value of a `u64`.
     ghost absences: { Self → ℕ };
 
+    /// The names that were asked for so far, one for each read, where the shelf tells them.
+    ghost asked: { Self → Option (List (List ℕ)) };
+
     /// Reads bytes of a file from a place on, counted from 0, and answers how many of them came.
     fn read_at(&mut self, name: &[u8], from: u64, into: &mut [u8]) -> Result<usize, ShelfFault>
         ensures bound { IfOk result (λ m. m ≤ length into.new) }
         ensures bytes { Told (files self.old) name.now (λ held. ReadsHeld held from result into.new) }
-        ensures cause { IfErr result (FaultRose
-            (faults self.old) (faults self.new) (absences self.old) (absences self.new)) }
-        ensures goes_on { GoesOn files faults absences self.old self.new };
+        ensures counts { CountsFaults faults absences self.old self.new (result_err result) }
+        ensures goes_on { GoesOn files faults absences self.old self.new }
+        ensures asks { AsksFor (asked self.old) (asked self.new) name.now 1 };
 }

@@ -1,6 +1,6 @@
 ghost use Rattle.std.specs.Prelude.{ℕ, ◌<◌, ◌≤◌, List, length, Option, IfOk};
 ghost use Rattle.std.specs.Io.KnownBytes.{WriteAppends};
-ghost use Rattle.bfgp_outside.specs.Causes.{HasCause};
+ghost use Rattle.bfgp_outside.specs.Causes.{CountsFailure};
 
 use thiserror::Error;
 
@@ -22,5 +22,5 @@ pub trait Sink {
         ensures bound { IfOk result (λ m. m ≤ length piece.now) }
         ensures some { IfOk result (λ m. 0 < length piece.now → 0 < m) }
         ensures bytes { WriteAppends (written self.old) (written self.new) result piece.now }
-        ensures cause { HasCause (faults self.old) (faults self.new) result };
+        ensures cause { CountsFailure (faults self.old) (faults self.new) result };
 }

@@ -1,6 +1,6 @@
 ghost use Rattle.std.specs.Prelude.{◌≡◌, ◌<◌, ◌≤◌, [], Ok, length, IfOk, IfErr, OnOk};
-ghost use Rattle.bfgp_outside.specs.Shelf.{Told, GoesOn};
-ghost use Rattle.bfgp_outside.specs.Whole.{whole_of, RefusesAs, RefusalRose};
+ghost use Rattle.bfgp_outside.specs.Shelf.{Told, CountsFaults, GoesOn, Asks};
+ghost use Rattle.bfgp_outside.specs.Whole.{whole_of, RefusesAs, fault_told};
 
 use crate::{Shelf, ShelfFault};
 use flag_rules::{OutOfMemory, Text};
@@ -75,9 +75,9 @@ pub fn read_whole<S: Shelf>(
     ensures within { IfOk result (λ text. length text ≤ limit) }
     ensures refused { IfErr result (λ refusal.
         Told (S.files shelf.old) name.now (λ held. RefusesAs refusal (whole_of held limit))) }
-    ensures cause { IfErr result (RefusalRose
-        (S.faults shelf.old) (S.faults shelf.new) (S.absences shelf.old) (S.absences shelf.new)) }
+    ensures counts { CountsFaults S.faults S.absences shelf.old shelf.new (fault_told result) }
     ensures goes_on { GoesOn S.files S.faults S.absences shelf.old shelf.new }
+    ensures asks { Asks (S.asked shelf.old) (S.asked shelf.new) name.now }
 {
     let mut piece = vec![in alloc; 0; PIECE_BYTES]?;
     let mut bytes = Text::new(alloc);
@@ -100,9 +100,9 @@ fn read_pieces<S: Shelf>(
     ensures within { OnOk result (length bytes.new ≤ limit) }
     ensures refused { IfErr result (λ refusal.
         Told (S.files shelf.old) name.now (λ held. RefusesAs refusal (whole_of held limit))) }
-    ensures cause { IfErr result (RefusalRose
-        (S.faults shelf.old) (S.faults shelf.new) (S.absences shelf.old) (S.absences shelf.new)) }
+    ensures counts { CountsFaults S.faults S.absences shelf.old shelf.new (fault_told result) }
     ensures goes_on { GoesOn S.files S.faults S.absences shelf.old shelf.new }
+    ensures asks { Asks (S.asked shelf.old) (S.asked shelf.new) name.now }
 {
     while bytes.len() as u64 <= limit {
         let count = shelf.read_at(name, bytes.len() as u64, piece)?;

@@ -1,3 +1,4 @@
+pub mod Counts
 pub mod Line
 pub mod Name
 pub mod Flags
