@@ -1,6 +1,7 @@
 ghost use Rattle.std.specs.Prelude.{◌≡◌, ◌↔◌, ◌<◌, IsTrue, [], ◌∷◌, ◌++◌, Some, length, slice_get, remove, IfOk, OnOk, OnErr};
+ghost use Rattle.flag_rules.specs.Line.{then_number};
 
-use crate::OutOfMemory;
+use crate::{OutOfMemory, SpacedNumber};
 use std::alloc::Global;
 use std::marker::Model;
 
@@ -88,6 +89,14 @@ impl Text {
     {
         self.bytes.extend_from_slice(bytes)?;
         Ok(())
+    }
+
+    /// Adds a space and a number in decimal at the end, or nothing.
+    pub fn append_number(&mut self, number: u64) -> Result<(), OutOfMemory>
+        ensures ok { OnOk result (self.new ≡ self.old ++ then_number number) }
+        ensures err { OnErr result (self.new ≡ self.old) }
+    {
+        self.append(SpacedNumber::of(number).as_slice())
     }
 
     /// Takes out the byte at a place, from 0, and closes up.
