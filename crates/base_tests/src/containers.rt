@@ -1,4 +1,4 @@
-use flag_rules::{List, OutOfMemory, Text};
+use flag_rules::{List, OutOfMemory, Text, read_decimal};
 
 #[test]
 fn lists_and_texts_grow_with_ample_memory(rt: HostRuntime) -> Result<(), OutOfMemory> {
@@ -16,5 +16,24 @@ fn lists_and_texts_grow_with_ample_memory(rt: HostRuntime) -> Result<(), OutOfMe
     text.push(b'd')?;
     text.append(b" of")?;
     assert_eq!(rt; text.as_slice(), b"end of".as_slice());
+    Ok(())
+}
+
+#[test]
+fn numbers_are_written_and_read_in_decimal(rt: HostRuntime) -> Result<(), OutOfMemory> {
+    let mut text = Text::of(rt.alloc(), b"of")?;
+    text.append_number(u64::MAX)?;
+    text.append_number(0)?;
+    assert_eq!(rt; text.as_slice(), b"of 18446744073709551615 0".as_slice());
+    for (word, number) in [
+        ("18446744073709551615", Some(u64::MAX)),
+        ("18446744073709551616", None),
+        ("0", Some(0)),
+        ("00", None),
+        ("+1", None),
+        ("", None),
+    ] {
+        assert_eq!(rt; read_decimal(word.as_bytes()), number, "{word}");
+    }
     Ok(())
 }

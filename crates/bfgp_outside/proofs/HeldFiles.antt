@@ -7,7 +7,7 @@ use Rattle.std.specs.Prelude.{nat_eq}
 use Rattle.std.specs.Ordering.{nat_cmp}
 use Rattle.std.specs.Cmp.Lexicographic.{slice_cmp, pointwise, nat_list_cmp_total, texts_ties}
 use Rattle.std.specs.FinMap.{get, get-insert, get-empty}
-use Rattle.bfgp_outside.specs.Held.{files_of}
+use Rattle.bfgp_outside.specs.Inner.Held.{files_of}
 use Rattle.bfgp_outside.specs.declared.memory_shelf.Held.{Held}
 
 -- the files from an index on are the file there and those behind it

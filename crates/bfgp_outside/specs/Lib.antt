@@ -1,5 +1,5 @@
 pub mod Causes
-pub mod Held
+pub mod Inner
 pub mod MemoryShelf
 pub mod MemorySink
 pub mod Real

@@ -1,7 +1,7 @@
 ghost use Rattle.std.specs.Prelude.{◌≡◌, [], ◌∷◌, ◌++◌, length, take, drop, OnOk, OnErr};
 ghost use Rattle.std.specs.Option.{option_copied};
 ghost use Rattle.std.specs.FinMap.{empty, insert, get};
-ghost use Rattle.bfgp_outside.specs.Held.{files_of};
+ghost use Rattle.bfgp_outside.specs.Inner.Held.{files_of};
 ghost use Rattle.bfgp_outside.specs.MemoryShelf.{next_read, count_of, filled, after_read};
 
 use crate::{Shelf, ShelfFault};
@@ -29,7 +29,7 @@ pub struct MemoryShelf {
 }
 
 impl Model for MemoryShelf {
-    ghost use Rattle.bfgp_outside.specs.Held.{files_of};
+    ghost use Rattle.bfgp_outside.specs.Inner.Held.{files_of};
     ghost use Rattle.bfgp_outside.specs.MemoryShelf.{ShelfState, shelf_code};
 
     ghost Value = { ShelfState };
@@ -84,7 +84,7 @@ impl MemoryShelf {
     }
 }
 
-/// The bytes of the first file of a name.
+// The bytes of the first file of a name.
 fn bytes_of<'a>(held: &'a [Held], name: &[u8]) -> Option<&'a [u8]>
     ensures { option_copied result ≡ get (files_of held.now) name.now }
 {
@@ -96,7 +96,7 @@ fn bytes_of<'a>(held: &'a [Held], name: &[u8]) -> Option<&'a [u8]>
     None
 }
 
-/// Copies the bytes from a place on, as many as there is room for, and answers how many these were.
+// Copies the bytes from a place on, as many as there is room for, and answers how many these were.
 fn copy_from(bytes: &[u8], from: u64, into: &mut [u8]) -> usize
     ensures count { result ≡ length (take (length into.old) (drop from bytes.now)) }
     ensures filled { into.new ≡ take (length into.old) (drop from bytes.now) ++ drop result into.old }

@@ -1,7 +1,8 @@
 ghost use Rattle.std.specs.Prelude.{◌≡◌, ◌≤◌, length, IfOk};
+ghost use Rattle.bfgp_outside.specs.Inner.OpenFile.{ReadsFrom};
 
 use crate::{Shelf, ShelfFault, Sink, SinkFailed};
-use std::io::{ErrorKind, Print, Read, Seek, SeekFrom};
+use std::io::{ErrorKind, Print, Printer, Read, Seek, SeekFrom, Write};
 use std::rt::Files;
 use std::str::Utf8Error;
 use std::{fs, io};
@@ -54,7 +55,7 @@ impl From<Utf8Error> for ShelfFault {
     }
 }
 
-/// Reads from a place of a file on.
+// Reads from a place of a file of the system on.
 fn read_file<R: Files>(
     system: &R,
     name: &[u8],
@@ -64,6 +65,15 @@ fn read_file<R: Files>(
     ensures { IfOk result (λ m. m ≤ length into.new) }
 {
     let mut file = fs::open(system, str::from_utf8(name)?)?;
+    read_from(&mut file, from, into)
+}
+
+// Reads once, from a place of an open file on.
+fn read_from<F: Read + Seek>(file: &mut F, from: u64, into: &mut [u8]) -> Result<usize, ShelfFault>
+    ensures bound { IfOk result (λ m. m ≤ length into.new) }
+    ensures read { IfOk result (λ m.
+        ReadsFrom F.stream_position F.remaining file.old file.new from m into.new) }
+{
     file.seek(SeekFrom::Start(from))?;
     Ok(file.read(into)?)
 }
@@ -91,32 +101,36 @@ impl<'a, R: Files> Shelf for RealShelf<'a, R> {
     }
 }
 
-/// The standard output. A contract cannot say what it shows.
+/// What a writer takes, as a sink.
 #[derive(Drop)]
-pub struct RealSink<'a, P> {
-    output: &'a P,
+pub struct WriterSink<W: Drop> {
+    output: W,
     faults: u64,
 }
 
-impl<'a, P: Print> RealSink<'a, P> {
+/// The standard output of a system. A contract cannot say what it shows.
+pub type RealSink<'a, P> = WriterSink<Printer<'a, P>>;
+
+impl<'a, P: Print> WriterSink<Printer<'a, P>> {
     /// The output of a system.
     pub fn new(output: &'a P) -> RealSink<'a, P>
         ensures { ⟦<RealSink<'a, P> as Sink>⟧.faults result ≡ 0 }
     {
-        RealSink { output, faults: 0 }
+        WriterSink {
+            output: io::writer(output),
+            faults: 0,
+        }
     }
 }
 
-impl<'a, P: Print> Sink for RealSink<'a, P> {
-    ghost use Rattle.std.specs.Prelude.{None};
-
-    ghost written = { λ _. None };
+impl<W: Write + Drop> Sink for WriterSink<W> {
+    ghost written = { λ sink. W.contents sink.output };
 
     ghost faults = { λ sink. sink.faults };
 
-    /// Writes to the output. A write that takes nothing of a piece that is not empty is a failure.
+    /// Writes to the output, once. A write that takes nothing of a piece that is not empty is a failure.
     fn put(&mut self, piece: &[u8]) -> Result<usize, SinkFailed> {
-        match self.output.write_some(piece) {
+        match self.output.write(piece) {
             Ok(count) if count > 0 || piece.is_empty() => Ok(count),
             _ => {
                 self.faults = self.faults.saturating_add(1);

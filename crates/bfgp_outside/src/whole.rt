@@ -63,7 +63,7 @@ impl From<AllocError> for ReadRefusal {
 /// How many bytes one read may give.
 const PIECE_BYTES: usize = 65_536;
 
-/// Reads a file of at most `limit` bytes, whole, in pieces of 65,536 bytes.
+/// Reads a file of at most `limit` bytes, whole, in pieces. A read that fails is not tried again.
 pub fn read_whole<S: Shelf>(
     alloc: Global,
     shelf: &mut S,
@@ -85,7 +85,7 @@ pub fn read_whole<S: Shelf>(
     Ok(bytes)
 }
 
-/// Reads a file into `bytes`, piece by piece.
+// Reads a file into `bytes`, piece by piece.
 fn read_pieces<S: Shelf>(
     shelf: &mut S,
     name: &[u8],

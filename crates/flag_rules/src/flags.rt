@@ -2,7 +2,7 @@ ghost use Rattle.std.specs.Prelude.{◌≡◌, ℤ};
 ghost use Rattle.flag_rules.specs.Flags.{sign_of_int, holds_at};
 
 /// The sign of the last result, which both flags are read from: the zero flag is set exactly at `Zero`, and the carry
-/// flag exactly at `Positive`. A run starts with `Negative`, where neither is set. Own.
+/// flag exactly at `Positive`. A run starts with `Negative`, where neither is set.
 #[derive(Clone, Copy, Debug, PartialEq, Eq)]
 pub enum Sign {
     Negative,
@@ -10,7 +10,7 @@ pub enum Sign {
     Positive,
 }
 
-/// The condition of a jump, on the flags. Own.
+/// The condition of a jump, on the flags.
 #[derive(Clone, Copy, Debug, PartialEq, Eq)]
 pub enum Cond {
     /// The zero flag is set.

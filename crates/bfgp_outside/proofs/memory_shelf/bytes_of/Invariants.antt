@@ -1,6 +1,6 @@
 use Rattle.std.proofs.Common.{◌≡◌, drop}
 use Rattle.std.specs.FinMap.{get}
-use Rattle.bfgp_outside.specs.Held.{files_of}
+use Rattle.bfgp_outside.specs.Inner.Held.{files_of}
 use Rattle.bfgp_outside.proofs.memory_shelf.bytes_of.Given as goal
 
 abbrev pub invariant-loop-file : goal.invariant-loop-file
