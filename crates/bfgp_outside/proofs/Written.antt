@@ -1,22 +1,7 @@
 -- What several puts, one after another, appended.
-use Rattle.std.proofs.Common.{ℕ, ◌+◌, List, [], ◌++◌, take, drop, Option, None, Some, Result, Ok, Err, OnErr, refl, sym, ◌∙◌, ap, subst, append_assoc}
-use Rattle.std.proofs.Math.Seq.{take-add}
-use Rattle.std.proofs.lemmas.List.{append-nil, take-append-drop}
+use Rattle.std.proofs.Common.{ℕ, List, [], ◌++◌, Option, None, Some, Result, Ok, Err, OnErr, refl, sym, ◌∙◌, ap, append_assoc}
+use Rattle.std.proofs.lemmas.List.{append-nil}
 use Rattle.bfgp_outside.specs.Sink.{Keeps, Appends, AppendsPrefix}
-
--- nothing, and then some bytes
-pub keeps_then : (a b c : Option (List ℕ)) (xs : List ℕ) → Keeps a b → Appends b c xs → Appends a c xs
-keeps_then None b c xs kept more = tt
-keeps_then (Some was) None c xs kept more = absurd kept
-keeps_then (Some was) (Some bs) None xs kept more = absurd more
-keeps_then (Some was) (Some bs) (Some cs) xs kept more = more ∙ ap (λ (l : List ℕ). l ++ xs) kept
-
--- some bytes, and then nothing
-pub appends_kept : (a b c : Option (List ℕ)) (xs : List ℕ) → Appends a b xs → Keeps b c → Appends a c xs
-appends_kept None b c xs some kept = tt
-appends_kept (Some was) None c xs some kept = absurd some
-appends_kept (Some was) (Some bs) None xs some kept = absurd kept
-appends_kept (Some was) (Some bs) (Some cs) xs some kept = kept ∙ some
 
 -- some bytes, and then more
 pub appends_more : (a b c : Option (List ℕ)) (xs ys : List ℕ) → Appends a b xs → Appends b c ys → Appends a c (xs ++ ys)
@@ -35,10 +20,6 @@ appends_none (Some was) (Some bs) kept = kept ∙ sym (append-nil was)
 pub prefix_none : (a b : Option (List ℕ)) (xs : List ℕ) → Keeps a b → AppendsPrefix a b xs
 prefix_none a b xs kept = record { front = []; rest = xs; split = refl; appended = appends_none a b kept }
 
--- all bytes are a front of them
-pub prefix_all : (a b : Option (List ℕ)) (xs : List ℕ) → Appends a b xs → AppendsPrefix a b xs
-prefix_all a b xs all = record { front = xs; rest = []; split = append-nil xs; appended = all }
-
 -- a front of the first bytes is a front of the first and the next
 pub prefix_front : (a b : Option (List ℕ)) (xs ys : List ℕ) → AppendsPrefix a b xs → AppendsPrefix a b (xs ++ ys)
 prefix_front a b xs ys part = record {
@@ -56,20 +37,6 @@ prefix_back a b c xs ys all part = record {
   split = append_assoc xs part.front part.rest ∙ ap (λ (l : List ℕ). xs ++ l) part.split;
   appended = appends_more a b c xs part.front all part.appended;
 }
-
--- a front of the bytes was appended, and then nothing
-pub prefix_taken : (a b c : Option (List ℕ)) (n : ℕ) (xs : List ℕ) → Appends a b (take n xs) → Keeps b c → AppendsPrefix a c xs
-prefix_taken a b c n xs some kept = record {
-  front = take n xs;
-  rest = drop n xs;
-  split = take-append-drop n xs;
-  appended = appends_kept a b c (take n xs) some kept;
-}
-
--- the first n bytes, and then some of the rest
-pub appends_next : (a b c : Option (List ℕ)) (n m : ℕ) (xs : List ℕ) → Appends a b (take n xs) → Appends b c (take m (drop n xs)) → Appends a c (take (n + m) xs)
-appends_next a b c n m xs some more =
-    subst (λ (l : List ℕ). Appends a c l) (sym (take-add n m xs)) (appends_more a b c (take n xs) (take m (drop n xs)) some more)
 
 -- what stands is what an error leaves
 pub on_err : {T E P : Type 0} (result : Result T E) → P → OnErr result P
