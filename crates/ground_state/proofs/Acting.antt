@@ -1,5 +1,5 @@
 -- Acting: how clearing and setting places deletes and adds atoms, and where an action is applicable.
-use Rattle.std.proofs.Common.{◌≡◌, ◌↔◌, ℕ, zero, suc, ◌<◌, ◌≤◌, Bool, true, false, ◌&&◌, ◌||◌, not, List, [], ◌∷◌, ◌++◌, length, length-append, get_or, take, ◌+◌, set, replicate, refl, ◌∙◌, ap, sym, arith, map, Some, All, IsTrue}
+use Rattle.std.proofs.Common.{◌≡◌, ◌↔◌, ℕ, zero, suc, ◌<◌, ◌≤◌, Bool, true, false, ◌&&◌, ◌||◌, not, List, [], ◌∷◌, ◌++◌, length, length-append, get_or, take, ◌+◌, set, replicate, refl, ◌∙◌, ap, sym, arith, map, Some, All, IsTrue, if◌then◌else◌}
 use Rattle.std.specs.List.{slice_get}
 use Rattle.std.proofs.lemmas.List.{length-map, map_more, get_or_default}
 use Rattle.std.proofs.lemmas.Option.{slice_get_within}
@@ -16,8 +16,9 @@ use Rattle.ground_state.specs.declared.parts.Fact.{Fact}
 use Rattle.ground_state.specs.Task.{IsTask, IsLifted, AreLifted, IsTerm, arities_of}
 use Rattle.ground_state.specs.GroundAtoms.{ground_atoms, atom_count}
 use Rattle.ground_state.specs.State.{State, those_of, is_true, true_atoms, with_atoms, without_atoms}
-use Rattle.ground_state.specs.Ground.{Ground}
-use Rattle.ground_state.specs.Action.{object_of, grounded, schema_of, IsBound, IsLiftedAt, IsTableOf, IsAction, Applicable, is_applicable}
+use Rattle.ground_state.specs.Ground.{Ground, IsStateOf}
+use Rattle.ground_state.specs.Inner.Lifting.{IsBound, IsLiftedAt}
+use Rattle.ground_state.specs.Action.{object_of, grounded, schema_of, IsTableOf, IsAction, Applicable, is_applicable, result_of, state_after}
 use Rattle.ground_state.proofs.Places.{atom_once, length-ground_atoms}
 use Rattle.ground_state.proofs.Typing.{typed_from_test, test_from_typed}
 use Rattle.ground_state.proofs.States.{is_among, Contains-from_test, test_from_Contains, none_listed, set_adds, true_at_place, length-those_of}
@@ -93,6 +94,20 @@ length-added objects arities state facts fits = length-with_atoms state _ (fits 
 pub length-deleted : (objects : ℕ) (arities : List ℕ) (state : State) (facts : List Fact) → length state ≡ atom_count objects arities → length (without_atoms state (those_of objects arities facts)) ≡ atom_count objects arities
 length-deleted objects arities state facts fits = length-without_atoms state _ (fits ∙ sym (length-those_of objects arities facts)) ∙ fits
 
+-- the state after an action is a state of the table
+pub state_after_fits : (task : TaskParts) (table : Ground) (schema : ℕ) (args : List ℕ) (state : State) → IsStateOf table state → IsStateOf table (state_after task table schema args state)
+state_after_fits task table schema args state fits = by_test (is_applicable task table schema args state)
+  where
+    changed : IsStateOf table (result_of task table schema args state)
+    changed =
+        let objects = length table.object_types in
+        length-added objects table.arities _ (map (grounded args) (schema_of task schema).add)
+        (length-deleted objects table.arities state (map (grounded args) (schema_of task schema).del) fits)
+
+    by_test : (b : Bool) → IsStateOf table (if b then result_of task table schema args state else state)
+    by_test true = changed
+    by_test false = fits
+
 pub place_within : (objects : ℕ) (arities : List ℕ) (state : State) (fact : Fact) (n : ℕ) → length state ≡ atom_count objects arities → slice_get (ground_atoms objects arities) n ≡ Some fact → n < length state
 place_within objects arities state fact n fits here =
     omega (arith, slice_get_within (ground_atoms objects arities) n fact here, length-ground_atoms objects arities, fits)
@@ -155,17 +170,16 @@ object_types_known task table made =
     rw made.made (All-map P (λ (entry : ObjectEntry). entry.of) made.instance.objects made.fits.objects.in_range)
 
 -- the test of an action decides where it is applicable
-pub applicable_exactly : (task : TaskParts) (table : Ground) (schema : ℕ) (args : List ℕ) (state : State) (b : Bool) → IsTask task → IsTableOf task table → IsAction task table schema args → b ≡ is_applicable task table schema args state → IsTrue b ↔ Applicable task table schema args state
-applicable_exactly task table schema args state b fit made action tested =
+pub applicable_exactly : (task : TaskParts) (table : Ground) (schema : ℕ) (args : List ℕ) (state : State) (b : Bool) → IsTask task → IsAction task table schema args → b ≡ is_applicable task table schema args state → IsTrue b ↔ Applicable task table schema args state
+applicable_exactly task table schema args state b fit action tested =
     let among = true_atoms (length table.object_types) table.arities state in
     let test = λ (atom : Lifted). is_among among (grounded args atom) in
-    let entry = schema_of task schema in
-    let known = object_types_known task table made in (
+    let entry = schema_of task schema in (
       (λ yes. let parts = and_parts _ _ (sym tested ∙ yes) in record {
-        types = typed_from_test task.types table.object_types args entry.params fit.types known action.objects action.count parts.0;
+        types = typed_from_test task.types table.object_types args entry.params fit.types action.count parts.0;
         pre = λ k d within. Contains-from_test among _ (AllPass-from_list_all test entry.pre parts.1 k d within);
       }),
       (λ held. tested ∙ and_from _ _
-          (test_from_typed task.types table.object_types args entry.params fit.types known action.objects held.types)
+          (test_from_typed task.types table.object_types args entry.params fit.types held.types)
           (list_all-from_AllPass test entry.pre (λ k d within. test_from_Contains among _ (held.pre k d within)))),
     )

@@ -26,7 +26,7 @@ atom_somewhere objects arities fact valid =
 abbrev pub is_missing : Bool × Bool → Bool
 is_missing place = place.0 && not place.1
 
-missing-cons : (wanted held : Bool) (goal state : State) → missing (wanted ∷ goal) (held ∷ state) ≡ cond (wanted && not held) 1 0 + missing goal state
+pub missing-cons : (wanted held : Bool) (goal state : State) → missing (wanted ∷ goal) (held ∷ state) ≡ cond (wanted && not held) 1 0 + missing goal state
 missing-cons wanted held goal state = sum_by-cons (λ (place : Bool × Bool). cond (is_missing place) 1 0) (wanted, held) (zip goal state)
 
 -- a place where nothing is missing

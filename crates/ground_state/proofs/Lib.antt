@@ -6,3 +6,4 @@ pub mod LawLemmas
 pub mod MetGoals
 pub mod Typing
 pub mod Acting
+pub mod Sets

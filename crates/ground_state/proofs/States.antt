@@ -97,13 +97,22 @@ picked_at (false ∷ state) (atom ∷ atoms) zero fact on here = absurd (cc)
 picked_at (true ∷ state) (atom ∷ atoms) (suc n) fact on here = let rest = picked_at state atoms n fact on here in (suc rest.0, rest.1)
 picked_at (false ∷ state) (atom ∷ atoms) (suc n) fact on here = picked_at state atoms n fact on here
 
+-- an atom that is true in a state stands at a true place, and one at a true place is true
+pub place_of_held : (objects : ℕ) (arities : List ℕ) (state : State) (fact : Fact) → Contains (true_atoms objects arities state) fact → (n : ℕ) × (slice_get state n ≡ Some true) × (slice_get (ground_atoms objects arities) n ≡ Some fact)
+place_of_held objects arities state fact held =
+    let picked = place_from_Contains (true_atoms objects arities state) fact held in
+    picked_from state (ground_atoms objects arities) picked.0 fact picked.1
+
+pub held_at_place : (objects : ℕ) (arities : List ℕ) (state : State) (fact : Fact) (n : ℕ) → slice_get state n ≡ Some true → slice_get (ground_atoms objects arities) n ≡ Some fact → Contains (true_atoms objects arities state) fact
+held_at_place objects arities state fact n on here =
+    let picked = picked_at state (ground_atoms objects arities) n fact on here in
+    Contains-from_place _ picked.0 fact picked.1
+
 -- a ground atom is true in a state exactly where its place is
 pub true_at_place : (objects : ℕ) (arities : List ℕ) (state : State) (fact : Fact) (n : ℕ) (b : Bool) → slice_get (ground_atoms objects arities) n ≡ Some fact → slice_get state n ≡ Some b → IsTrue b ↔ Contains (true_atoms objects arities state) fact
 true_at_place objects arities state fact n b here on = (
-  (λ yes. let picked = picked_at state (ground_atoms objects arities) n fact (on ∙ ap (λ x. Some x) yes) here in
-      Contains-from_place _ picked.0 fact picked.1),
-  (λ among. let picked = place_from_Contains (true_atoms objects arities state) fact among in
-      let found = picked_from state (ground_atoms objects arities) picked.0 fact picked.1 in
+  (λ yes. held_at_place objects arities state fact n (on ∙ ap (λ x. Some x) yes) here),
+  (λ among. let found = place_of_held objects arities state fact among in
       let same = atom_once objects arities found.0 n fact found.2 here in
       let yes : slice_get state n ≡ Some true = rw (← same) found.1 in
       let equal : b ≡ true = cc in equal),

@@ -1,15 +1,17 @@
 -- Typing: a type reaches another one within fewer steps than there are types, so the test of these steps decides it.
-use Rattle.std.proofs.Common.{◌≡◌, ◌↔◌, ℕ, zero, suc, ◌+◌, ◌-◌, ◌<◌, ◌≤◌, ◌⊎◌, inl, inr, Bool, true, false, ◌==◌, List, [], ◌∷◌, length, get_or, refl, ◌∙◌, ap, sym, arith, map, All, eqb}
+use Rattle.std.proofs.Common.{◌≡◌, ◌↔◌, ℕ, zero, suc, ◌+◌, ◌-◌, ◌<◌, ◌≤◌, ◌⊎◌, inl, inr, Bool, true, false, ◌==◌, List, [], ◌∷◌, length, get_or, refl, ◌∙◌, ap, sym, subst, arith, map, All, Some, eqb}
 use Rattle.std.specs.Prelude.{slice_index}
-use Rattle.std.specs.List.{AllZip, AllByRecursion, IsDistinct, list_any, range_with_len}
-use Rattle.std.proofs.lemmas.Bool.{cases_Bool, cases_lt, eqb-true, eq-eqb, false_from_ne_true, and_parts, and_from}
+use Rattle.std.specs.List.{slice_get, AllZip, AllByRecursion, IsDistinct, list_any, range_with_len}
+use Rattle.std.proofs.lemmas.Bool.{cases_Bool, cases_lt, eqb-true, eq-eqb, ltb-true, lt-ltb, false_from_ne_true, and_parts, and_from}
 use Rattle.std.proofs.lemmas.List.{length-map, get_or-map}
-use Rattle.std.proofs.lemmas.List.Elements.{All-map, All-head, All-tail}
+use Rattle.std.proofs.lemmas.Option.{slice_get_within, slice_get-get_or, get_or_from_slice_get}
+use Rattle.ground_state.proofs.Lists.{slice_get-map_at}
+use Rattle.std.proofs.lemmas.List.Elements.{All-map}
 use Rattle.std.proofs.lemmas.List.Folds.{Any-from_list_any, list_any_at}
 use Rattle.std.proofs.lemmas.List.FromFn.{length-range_with_len, get_or-range_with_len, length-map-range_with_len, get_or-map-range_with_len}
 use Rattle.std.proofs.lemmas.Map.Steps.{length-le_from_distinct_below}
 use Rattle.ground_state.specs.declared.parts.TypeEntry.{TypeEntry}
-use Rattle.ground_state.specs.Task.{AreTypes, Reaches, ancestor, reaches}
+use Rattle.ground_state.specs.Task.{AreTypes, Reaches, itself, by_parent, ancestor, reaches}
 use Rattle.ground_state.specs.Action.{are_of_types}
 
 -- ---- values of a function that differ are few
@@ -84,37 +86,72 @@ first_is_soon types number above s fit low first =
     absurd (cc) in
     omega (arith, few_values f (s + 1) (length types) (λ i. ancestor_within types number i fit.parents low) apart)
 
--- the test decides which types a type reaches
-pub reaches_exactly : (types : List TypeEntry) (number above : ℕ) → AreTypes types → number < length types → (reaches types number above ≡ true) ↔ Reaches types number above
-reaches_exactly types number above fit low =
-    let test = λ (steps : ℕ). ancestor types steps number == above in
-    let all = range_with_len 0 (length types) in (
-      (λ yes. let found = Any-from_list_any test all yes in (found.1, eqb-true _ above found.4)),
-      (λ held. elim (first_of test (suc held.0)) [
-        | inl none ↦ let told = eq-eqb _ above held.1 in let missed = none held.0 (omega arith) in absurd (cc)
-        | inr first ↦
-            let soon = first_is_soon types number above first.0 fit low first.1 in
-            let place = get_or-range_with_len 0 (length types) first.0 0 soon in
-            let same : get_or all first.0 0 ≡ first.0 = omega (arith, place) in
-            list_any_at test all first.0 0 (omega (arith, soon, length-range_with_len 0 (length types))) (ap test same ∙ first.1.holds)
-      ]),
-    )
+-- ---- a type reaches another one exactly where some number of steps leads to it
+next_ancestor : (types : List TypeEntry) (steps number : ℕ) → ancestor types (suc steps) number ≡ ancestor types steps (ancestor types 1 number)
+next_ancestor types zero number = refl
+next_ancestor types (suc steps) number = ap (slice_index (map (λ (entry : TypeEntry). entry.parent) types)) (next_ancestor types steps number)
 
--- ---- the loop up the parents
-pub reached_here : (types : List TypeEntry) (number above at i : ℕ) → i < length types → at ≡ ancestor types i number → at ≡ above → true ≡ reaches types number above
-reached_here types number above at i within up here =
+parent_read : (types : List TypeEntry) (number : ℕ) (entry : TypeEntry) → slice_get types number ≡ Some entry → ancestor types 1 number ≡ entry.parent
+parent_read types number entry here =
+    let parent = λ (entry : TypeEntry). entry.parent in
+    get_or_from_slice_get (map parent types) number entry.parent 0 (slice_get-map_at parent types number entry here)
+
+-- what reaches something is a type
+pub reaching_is_type : {types : List TypeEntry} {number above : ℕ} → Reaches types number above → number < length types
+reaching_is_type (itself within) = within
+reaching_is_type {types} {number} (by_parent {entry = entry} here rest) = slice_get_within types number entry here
+
+pub steps_from_Reaches : {types : List TypeEntry} {number above : ℕ} → Reaches types number above → (steps : ℕ) × (ancestor types steps number ≡ above)
+steps_from_Reaches (itself within) = (0, refl)
+steps_from_Reaches {types} {number} (by_parent {entry = entry} here rest) =
+    let further = steps_from_Reaches rest in
+    (suc further.0, next_ancestor types further.0 number ∙ ap (ancestor types further.0) (parent_read types number entry here) ∙ further.1)
+
+pub Reaches-from_steps : (types : List TypeEntry) (steps number above : ℕ) → All (λ (entry : TypeEntry). entry.parent < length types) types → number < length types → ancestor types steps number ≡ above → Reaches types number above
+Reaches-from_steps types zero number above parents within here = subst (λ n. Reaches types number n) here (itself within)
+Reaches-from_steps types (suc steps) number above parents within here =
+    let entry = get_or types number (record { name = []; parent = 0 }) in
+    let read = slice_get-get_or types number _ within in
+    by_parent read (Reaches-from_steps types steps entry.parent above parents (parents number _ within)
+    (ap (ancestor types steps) (sym (parent_read types number entry read)) ∙ sym (next_ancestor types steps number) ∙ here))
+
+-- ---- the test decides which types a type reaches
+tested_steps : (types : List TypeEntry) (number above : ℕ) → reaches types number above ≡ true → (number < length types) × ((steps : ℕ) × (ancestor types steps number ≡ above))
+tested_steps types number above tested =
+    let parts = and_parts _ _ tested in
+    let found = Any-from_list_any (λ steps. ancestor types steps number == above) (range_with_len 0 (length types)) parts.1 in
+    (ltb-true number (length types) parts.0, (found.1, eqb-true _ above found.4))
+
+test_of_steps : (types : List TypeEntry) (number above steps : ℕ) → number < length types → steps < length types → ancestor types steps number ≡ above → reaches types number above ≡ true
+test_of_steps types number above steps known soon here =
     let test = λ (steps : ℕ). ancestor types steps number == above in
     let all = range_with_len 0 (length types) in
-    let place = get_or-range_with_len 0 (length types) i 0 within in
-    let same : get_or all i 0 ≡ i = omega (arith, place) in
-    sym (list_any_at test all i 0 (omega (arith, within, length-range_with_len 0 (length types))) (ap test same ∙ eq-eqb _ above (sym up ∙ here)))
+    let place = get_or-range_with_len 0 (length types) steps 0 soon in
+    let same : get_or all steps 0 ≡ steps = omega (arith, place) in
+    and_from _ _ (lt-ltb number (length types) known) (list_any_at test all steps 0 (omega (arith, soon, length-range_with_len 0 (length types))) (ap test same ∙ eq-eqb _ above here))
+
+pub reaches_exactly : (types : List TypeEntry) (number above : ℕ) → AreTypes types → (reaches types number above ≡ true) ↔ Reaches types number above
+reaches_exactly types number above fit = (
+  (λ yes. let tested = tested_steps types number above yes in
+      Reaches-from_steps types tested.1.0 number above fit.parents tested.0 tested.1.1),
+  (λ held. let low = reaching_is_type held in
+      let some = steps_from_Reaches held in
+      elim (first_of (λ steps. ancestor types steps number == above) (suc some.0)) [
+        | inl none ↦ let told = eq-eqb _ above some.1 in let missed = none some.0 (omega arith) in absurd (cc)
+        | inr first ↦ test_of_steps types number above first.0 low (first_is_soon types number above first.0 fit low first.1) (eqb-true _ above first.1.holds)
+      ]),
+)
+
+-- ---- the loop up the parents
+pub reached_here : (types : List TypeEntry) (number above at i : ℕ) → number < length types → i < length types → at ≡ ancestor types i number → at ≡ above → true ≡ reaches types number above
+reached_here types number above at i known within up here = sym (test_of_steps types number above i known within (sym up ∙ here))
 
 pub not_reached : (types : List TypeEntry) (number above : ℕ) → ((r : ℕ) → r < length types → ancestor types r number ≡ above → ⊥) → false ≡ reaches types number above
 not_reached types number above never =
     let test = λ (steps : ℕ). ancestor types steps number == above in
     let all = range_with_len 0 (length types) in
     sym (false_from_ne_true _ (λ yes.
-    let found = Any-from_list_any test all yes in
+    let found = Any-from_list_any test all (and_parts _ _ yes).1 in
     let within : found.0 < length types = omega (arith, found.2, length-range_with_len 0 (length types)) in
     let place = get_or-range_with_len 0 (length types) found.0 found.1 within in
     never found.1 (omega (arith, place, found.3, within)) (eqb-true _ above found.4)))
@@ -135,22 +172,17 @@ one_step_up types number above at i up other before r low there = elim (cases_lt
 ]
 
 -- ---- the types of an action's objects
-pub typed_from_test : (types : List TypeEntry) (object_types args params : List ℕ) → AreTypes types → All (λ number. number < length types) object_types → All (λ object. object < length object_types) args → length args ≡ length params → are_of_types types object_types args params ≡ true → AllZip (λ object number. Reaches types (slice_index object_types object) number) args params
-typed_from_test types object_types [] [] fit known low count tested = tt
-typed_from_test types object_types [] (param ∷ params) fit known low count tested = absurd (cc)
-typed_from_test types object_types (object ∷ args) [] fit known low count tested = absurd (cc)
-typed_from_test types object_types (object ∷ args) (param ∷ params) fit known low count tested =
-    let P : ℕ → Type 0 = λ object. object < length object_types in
-    let parts = and_parts _ _ tested in (
-      (reaches_exactly types _ param fit (known object 0 (All-head P object args low))).0 parts.0,
-      typed_from_test types object_types args params fit known (All-tail P object args low) (cc) parts.1,
-    )
+pub typed_from_test : (types : List TypeEntry) (object_types args params : List ℕ) → AreTypes types → length args ≡ length params → are_of_types types object_types args params ≡ true → AllZip (λ object number. Reaches types (slice_index object_types object) number) args params
+typed_from_test types object_types [] [] fit count tested = tt
+typed_from_test types object_types [] (param ∷ params) fit count tested = absurd (cc)
+typed_from_test types object_types (object ∷ args) [] fit count tested = absurd (cc)
+typed_from_test types object_types (object ∷ args) (param ∷ params) fit count tested =
+    let parts = and_parts _ _ tested in
+    ((reaches_exactly types _ param fit).0 parts.0, typed_from_test types object_types args params fit (cc) parts.1)
 
-pub test_from_typed : (types : List TypeEntry) (object_types args params : List ℕ) → AreTypes types → All (λ number. number < length types) object_types → All (λ object. object < length object_types) args → AllZip (λ object number. Reaches types (slice_index object_types object) number) args params → are_of_types types object_types args params ≡ true
-test_from_typed types object_types [] [] fit known low typed = refl
-test_from_typed types object_types [] (param ∷ params) fit known low typed = absurd typed
-test_from_typed types object_types (object ∷ args) [] fit known low typed = absurd typed
-test_from_typed types object_types (object ∷ args) (param ∷ params) fit known low typed =
-    let P : ℕ → Type 0 = λ object. object < length object_types in
-    and_from _ _ ((reaches_exactly types _ param fit (known object 0 (All-head P object args low))).1 typed.0)
-    (test_from_typed types object_types args params fit known (All-tail P object args low) typed.1)
+pub test_from_typed : (types : List TypeEntry) (object_types args params : List ℕ) → AreTypes types → AllZip (λ object number. Reaches types (slice_index object_types object) number) args params → are_of_types types object_types args params ≡ true
+test_from_typed types object_types [] [] fit typed = refl
+test_from_typed types object_types [] (param ∷ params) fit typed = absurd typed
+test_from_typed types object_types (object ∷ args) [] fit typed = absurd typed
+test_from_typed types object_types (object ∷ args) (param ∷ params) fit typed =
+    and_from _ _ ((reaches_exactly types _ param fit).1 typed.0) (test_from_typed types object_types args params fit typed.1)

@@ -1,5 +1,5 @@
 -- Acting: the atoms of an action schema at given objects, where an action is applicable, and the state that it leads to.
-use Rattle.std.specs.Prelude.{ℕ, ◌≡◌, ◌<◌, Bool, ◌&&◌, if◌then◌else◌, List, [], map, zip, length, slice_index, slice_index_or, All, ⊤}
+use Rattle.std.specs.Prelude.{ℕ, ◌≡◌, ◌<◌, Bool, ◌&&◌, if◌then◌else◌, List, [], map, zip, length, slice_index, slice_index_or, All, Contains}
 use Rattle.std.specs.List.{list_all, AllZip}
 use Rattle.ground_state.specs.declared.parts.TypeEntry.{TypeEntry}
 use Rattle.ground_state.specs.declared.parts.TaskParts.{TaskParts}
@@ -10,7 +10,7 @@ use Rattle.ground_state.specs.declared.parts.Term.{Term}
 use Rattle.ground_state.specs.declared.parts.Term.TheVariants.{Param, Object}
 use Rattle.ground_state.specs.declared.parts.Fact.{Fact}
 use Rattle.ground_state.specs.Task.{Reaches, reaches}
-use Rattle.ground_state.specs.Instance.{IsInstance, IsFact}
+use Rattle.ground_state.specs.Instance.{IsInstance}
 use Rattle.ground_state.specs.State.{State, those_of, is_true, with_atoms, without_atoms}
 use Rattle.ground_state.specs.Ground.{Ground, ground_of, Holds}
 
@@ -23,16 +23,6 @@ object_of args (Object number) = number
 abbrev pub grounded : List ℕ → Lifted → Fact
 grounded args atom = record { pred = atom.pred; args = map (object_of args) atom.args }
 
--- the parameter of the argument, if it is one, is among so many
-abbrev pub IsBound : ℕ → Term → Type 0
-IsBound count (Param place) = place < count
-IsBound count (Object number) = ⊤
-
--- a schema's atom that is a ground atom at these objects
-pub record IsLiftedAt (objects : ℕ) (arities : List ℕ) (args : List ℕ) (atom : Lifted) : Type 0 where
-  pub bound : All (IsBound (length args)) atom.args
-  pub fact : IsFact objects arities (grounded args atom)
-
 -- the set of a schema's atoms at these objects
 abbrev pub those_at : Ground → List ℕ → List Lifted → State
 those_at table args atoms = those_of (length table.object_types) table.arities (map (grounded args) atoms)
@@ -40,6 +30,14 @@ those_at table args atoms = those_of (length table.object_types) table.arities (
 -- the schema of a number
 abbrev pub schema_of : TaskParts → ℕ → SchemaEntry
 schema_of task number = slice_index_or task.schemas number (record { name = []; params = []; pre = []; add = []; del = [] })
+
+-- acting at these objects adds an atom
+abbrev pub Adds : TaskParts → ℕ → List ℕ → Fact → Type 0
+Adds task schema args fact = Contains (map (grounded args) (schema_of task schema).add) fact
+
+-- acting at these objects deletes an atom
+abbrev pub Deletes : TaskParts → ℕ → List ℕ → Fact → Type 0
+Deletes task schema args fact = Contains (map (grounded args) (schema_of task schema).del) fact
 
 -- the table is what an instance of the task comes to
 pub record IsTableOf (task : TaskParts) (table : Ground) : Type 0 where
@@ -78,5 +76,5 @@ result_of task table schema args state =
     with_atoms (without_atoms state (those_at table args (schema_of task schema).del)) (those_at table args (schema_of task schema).add)
 
 -- the state that acting leads to: what is not applicable changes nothing
-abbrev pub acted : TaskParts → Ground → ℕ → List ℕ → State → State
-acted task table schema args state = (if is_applicable task table schema args state then result_of task table schema args state else state)
+abbrev pub state_after : TaskParts → Ground → ℕ → List ℕ → State → State
+state_after task table schema args state = (if is_applicable task table schema args state then result_of task table schema args state else state)

@@ -1,6 +1,6 @@
 -- What a task and an instance of it come to for states: the objects with their types, the predicates' arities, and the
 -- atoms of the start and of the goal.
-use Rattle.std.specs.Prelude.{ℕ, ◌≡◌, List, map, length, Contains}
+use Rattle.std.specs.Prelude.{ℕ, ◌≡◌, ◌≢◌, ◌↔◌, List, map, length, Contains, AllPairs}
 use Rattle.ground_state.specs.declared.parts.ObjectEntry.{ObjectEntry}
 use Rattle.ground_state.specs.declared.parts.TaskParts.{TaskParts}
 use Rattle.ground_state.specs.declared.parts.InstanceParts.{InstanceParts}
@@ -45,3 +45,8 @@ IsStateOf table state = length state ≡ atoms_in table
 -- the atom is one of those that are true in the state
 abbrev pub Holds : Ground → State → Fact → Type 0
 Holds table state fact = Contains (true_atoms (length table.object_types) table.arities state) fact
+
+-- these are the atoms that a goal lists and that do not hold in the state, each of them once
+pub record AreMissing (table : Ground) (goal : List Fact) (state : State) (atoms : List Fact) : Type 0 where
+  pub once : AllPairs (λ one other. one ≢ other) atoms
+  pub listed : (fact : Fact) → Contains atoms fact ↔ (Contains goal fact × ¬ Holds table state fact)

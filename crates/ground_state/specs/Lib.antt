@@ -4,3 +4,4 @@ pub mod Instance
 pub mod State
 pub mod Ground
 pub mod Action
+pub mod Inner

@@ -1,5 +1,5 @@
 -- When the parts of a planning task fit together.
-use Rattle.std.specs.Prelude.{ℕ, zero, suc, ◌≡◌, ◌≢◌, ◌==◌, ◌<◌, ◌≤◌, ◌^◌, Bool, List, map, length, slice_get, slice_index, All, AllPairs, Some, codes}
+use Rattle.std.specs.Prelude.{ℕ, zero, suc, ◌≡◌, ◌≢◌, ◌==◌, ◌<◌, ◌≤◌, ◌^◌, nat_lt, Bool, ◌&&◌, List, map, length, slice_get, slice_index, All, AllPairs, Some, codes}
 use Rattle.std.specs.List.{list_any, range_with_len}
 use Rattle.flag_rules.specs.Name.{IsName}
 use Rattle.ground_state.specs.declared.parts.TypeEntry.{TypeEntry}
@@ -16,18 +16,20 @@ use Rattle.ground_state.specs.declared.parts.TheConstants.{MAX_OBJECTS, MAX_PARA
 abbrev pub arities_of : TaskParts → List ℕ
 arities_of task = map (λ (predicate : PredicateEntry). predicate.arity) task.predicates
 
+-- a type reaches itself, and what its parent reaches; a number that is no type reaches nothing
+pub data Reaches (types : List TypeEntry) : ℕ → ℕ → Type 0 where
+  itself : {number : ℕ} → number < length types → Reaches types number number
+  by_parent : {number above : ℕ} {entry : TypeEntry} → slice_get types number ≡ Some entry → Reaches types entry.parent above → Reaches types number above
+
 -- the type that stands this many steps above a type
 abbrev pub ancestor : List TypeEntry → ℕ → ℕ → ℕ
 ancestor types zero number = number
 ancestor types (suc steps) number = slice_index (map (λ (entry : TypeEntry). entry.parent) types) (ancestor types steps number)
 
--- a type is another one or stands under it, by parents
-abbrev pub Reaches : List TypeEntry → ℕ → ℕ → Type 0
-Reaches types number above = (steps : ℕ) × (ancestor types steps number ≡ above)
-
--- whether a type is another one or stands under it by fewer steps than there are types
+-- whether a number is a type that is another one or stands under it by fewer steps than there are types
 abbrev pub reaches : List TypeEntry → ℕ → ℕ → Bool
-reaches types number above = list_any (λ steps. ancestor types steps number == above) (range_with_len 0 (length types))
+reaches types number above =
+    nat_lt number (length types) && list_any (λ steps. ancestor types steps number == above) (range_with_len 0 (length types))
 
 -- every name is one in lower case, and no two of them are the same
 pub record AreNames (names : List (List ℕ)) : Type 0 where

@@ -1,20 +1,20 @@
 ghost use Rattle.std.specs.Prelude.{◌≡◌, ◌↔◌, IsTrue};
 ghost use Rattle.ground_state.specs.Ground.{IsStateOf};
-ghost use Rattle.ground_state.specs.Action.{IsTableOf, IsAction, Applicable, is_applicable, acted};
+ghost use Rattle.ground_state.specs.Action.{IsTableOf, IsAction, Applicable, is_applicable, state_after};
 
 use crate::types::are_of_types;
 use crate::{AtomTable, Atoms, Task};
 
 /// Applies an action, which is a schema by its number and an object for each of its parameters, where it is
-/// applicable, and says whether it was. An atom that is both deleted and added is true afterwards: that deleting
-/// comes first is own, the rest is PDDL 1.2 with `:strips` and `:typing`.
+/// applicable, and says whether it was. Deleting comes first: an atom that is both deleted and added is true
+/// afterwards.
 pub fn apply(task: &Task, table: &AtomTable, schema: u32, args: &[u16], atoms: &mut Atoms) -> bool
     requires table { IsTableOf task.now table.now }
     requires action { IsAction task.now table.now schema args.now }
     requires state { IsStateOf table.now atoms.old }
     ensures applicable { IsTrue result ↔ Applicable task.now table.now schema args.now atoms.old }
     ensures tested { result ≡ is_applicable task.now table.now schema args.now atoms.old }
-    ensures acted { atoms.new ≡ acted task.now table.now schema args.now atoms.old }
+    ensures acted { atoms.new ≡ state_after task.now table.now schema args.now atoms.old }
     ensures fits { IsStateOf table.now atoms.new }
 {
     if !can_apply(task, table, schema, args, atoms) {

@@ -1,4 +1,7 @@
-//! Planning tasks and instances of them by numbers, and states as sets of ground atoms.
+//! Planning tasks and instances of them by numbers, and states as sets of ground atoms. In `specs/` read `Task` first,
+//! then `Ground` and `Action`; how states are lists of truth values need not be read: `src/laws.rt` says as laws which
+//! atoms hold at the start and after an action, which are missing, and that the tests of types and of actions are
+//! right. In `specs/Inner/` is what contracts between private functions cite, one file.
 #![tactic(auto)]
 
 mod action;
@@ -15,9 +18,11 @@ mod types;
 pub use action::apply;
 pub use atoms::Atoms;
 pub use laws::{
-    action_is_applicable_exactly_where_tested, goal_is_met_exactly_where_its_facts_hold,
-    goal_is_met_exactly_where_listed, type_is_reached_exactly_where_tested,
-    unmet_goal_has_a_fact_not_listed,
+    acting_gives_the_result_exactly_where_applicable, action_is_applicable_exactly_where_tested,
+    atom_holds_at_the_start_exactly_where_listed,
+    atom_holds_in_the_result_exactly_where_added_or_kept, goal_is_met_exactly_where_its_facts_hold,
+    goal_is_met_exactly_where_listed, limits, missing_atoms_are_those_listed_that_do_not_hold,
+    type_is_reached_exactly_where_tested, unmet_goal_has_a_fact_not_listed,
 };
 pub use parts::{
     Fact, InstanceParts, Lifted, MAX_ARITY, MAX_ATOMS, MAX_OBJECTS, MAX_PARAMETERS, ObjectEntry,

@@ -5,7 +5,8 @@ ghost use Rattle.ground_state.specs.declared.parts.PredicateEntry.{PredicateEntr
 ghost use Rattle.ground_state.specs.Instance.{IsFact};
 ghost use Rattle.ground_state.specs.GroundAtoms.{atom_count, ground_atoms, tuples};
 ghost use Rattle.ground_state.specs.State.{those_of, is_true, with_atoms, without_atoms};
-ghost use Rattle.ground_state.specs.Action.{object_of, grounded, IsBound, IsLiftedAt};
+ghost use Rattle.ground_state.specs.Action.{object_of, grounded};
+ghost use Rattle.ground_state.specs.Inner.Lifting.{IsBound, IsLiftedAt};
 
 use crate::bits::Bits;
 use crate::{Fact, Lifted, PredicateEntry, Term};

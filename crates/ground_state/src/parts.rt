@@ -1,5 +1,6 @@
 ghost use Rattle.std.specs.Prelude.{◌≡◌, length};
-ghost use Rattle.ground_state.specs.Action.{IsBound, object_of};
+ghost use Rattle.ground_state.specs.Action.{object_of};
+ghost use Rattle.ground_state.specs.Inner.Lifting.{IsBound};
 
 use flag_rules::{List, Text};
 

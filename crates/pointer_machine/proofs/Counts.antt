@@ -15,7 +15,7 @@ use Rattle.ground_state.specs.Task.{IsTask, IsSchema}
 use Rattle.ground_state.proofs.Places.{length-tuples}
 use Rattle.pointer_machine.specs.declared.form.Form.{Form}
 use Rattle.pointer_machine.specs.declared.form.Form.TheVariants.{Act, Test, Inc, Dec, Clear, Set, Cmp}
-use Rattle.pointer_machine.specs.Operations.{operations, operation_count, by_entry, count_by_entry, params_of, arity_of, acts, tests, others, pairs_of, pairs}
+use Rattle.pointer_machine.specs.Operations.{operations_of, operation_count, by_entry, count_by_entry, params_of, arity_of, acts, tests, others, pairs_of, pairs}
 
 -- the operations by entries are as many as the count says
 length-by_entry : {E : Type 0} (width : E → ℕ) (form : ℕ → List ℕ → Form) (pointers number : ℕ) (entries : List E) → length (by_entry width form pointers number entries) ≡ count_by_entry width pointers entries
@@ -57,7 +57,7 @@ length-pairs pointers =
     rw length-range_with_len at (length-flat_map_even (pairs_of pointers) (pointers - 1) (range_with_len 0 pointers) each)
 
 -- the list of operations is as long as the count says
-pub length-operations : (task : TaskParts) (pointers : ℕ) → length (operations task pointers) ≡ operation_count task pointers
+pub length-operations : (task : TaskParts) (pointers : ℕ) → length (operations_of task pointers) ≡ operation_count task pointers
 length-operations task pointers =
     let all = range_with_len 0 pointers in
     let before_incs = acts task pointers ++ tests task pointers in
@@ -110,7 +110,7 @@ predicates_narrow task entries fit same = rw same (record {
 })
 
 -- the count for the entries before one stays far below the last value of 64 bits
-pub count_fits : {E : Type 0} (width : E → ℕ) (pointers i : ℕ) (entries : List E) → AreNarrow width entries → pointers ≤ 4 → count_by_entry width pointers (take i entries) < 2 ^ 45
+pub count_fits : {E : Type 0} (width : E → ℕ) (pointers i : ℕ) (entries : List E) → AreNarrow width entries → pointers ≤ 4 → count_by_entry width pointers (take i entries) < 2 ^ 44
 count_fits {E} width pointers i entries narrow few =
     let own : E → ℕ = λ entry. pointers ^ width entry in
     let each = All-weaker (λ entry. width entry ≤ 6) (λ entry. own entry ≤ 4096) (λ entry short. tuples_few pointers (width entry) few short) entries narrow.each in
@@ -118,7 +118,7 @@ count_fits {E} width pointers i entries narrow few =
 
 -- so does the count with its own
 pub record IsFew {E : Type 0} (width : E → ℕ) (pointers i : ℕ) (entries : List E) (entry : E) : Type 0 where
-  pub before : count_by_entry width pointers (take i entries) < 2 ^ 45
+  pub before : count_by_entry width pointers (take i entries) < 2 ^ 44
   pub own : pointers ^ width entry ≤ 4096
 
 pub few_so_far : {E : Type 0} (width : E → ℕ) (pointers i : ℕ) (entries : List E) (entry : E) → AreNarrow width entries → pointers ≤ 4 → i < length entries → entry ≡ get_or entries i entry → IsFew width pointers i entries entry

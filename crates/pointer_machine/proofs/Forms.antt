@@ -11,7 +11,7 @@ use Rattle.ground_state.proofs.Places.{tuple_of}
 use Rattle.ground_state.proofs.Lists.{slice_get-append_cases, slice_get-map_from}
 use Rattle.pointer_machine.specs.declared.form.Form.{Form}
 use Rattle.pointer_machine.specs.declared.form.Form.TheVariants.{Act, Test, Inc, Dec, Clear, Set, Cmp}
-use Rattle.pointer_machine.specs.Operations.{operations, by_entry, params_of, arity_of, acts, tests, others, pairs_of, pairs, IsForm}
+use Rattle.pointer_machine.specs.Operations.{operations_of, by_entry, params_of, arity_of, acts, tests, others, pairs_of, pairs, IsForm}
 
 -- a list of so many pointers, each in range
 pub record IsTuple (pointers params : ℕ) (args : List ℕ) : Type 0 where
@@ -84,7 +84,7 @@ pairs_are pointers =
     (All-range (λ other. P (one, other)) (one + 1) (pointers - (one + 1)) (λ k below. record { one = omega arith; other = omega arith; differ = omega arith })))))
 
 -- each operation is one of the task
-pub forms_of : (task : TaskParts) (pointers more : ℕ) → pointers ≤ more → All (IsForm task more) (operations task pointers)
+pub forms_of : (task : TaskParts) (pointers more : ℕ) → pointers ≤ more → All (IsForm task more) (operations_of task pointers)
 forms_of task pointers more few =
     let P = IsForm task more in
     let all = range_with_len 0 pointers in
@@ -120,7 +120,7 @@ forms_of task pointers more few =
     ))
 
 -- so is the operation of a number
-pub form_of : (task : TaskParts) (pointers more n : ℕ) (form : Form) → pointers ≤ more → slice_get (operations task pointers) n ≡ Some form → IsForm task more form
+pub form_of : (task : TaskParts) (pointers more n : ℕ) (form : Form) → pointers ≤ more → slice_get (operations_of task pointers) n ≡ Some form → IsForm task more form
 form_of task pointers more n form few here =
-    let within = slice_get_within (operations task pointers) n form here in
-    rw (get_or_from_slice_get (operations task pointers) n form form here) at (forms_of task pointers more few n form within)
+    let within = slice_get_within (operations_of task pointers) n form here in
+    rw (get_or_from_slice_get (operations_of task pointers) n form form here) at (forms_of task pointers more few n form within)

@@ -11,7 +11,7 @@ use Rattle.ground_state.proofs.Places.{tuple_once}
 use Rattle.ground_state.proofs.Lists.{slice_get-append_cases, slice_get-map_from}
 use Rattle.pointer_machine.specs.declared.form.Form.{Form}
 use Rattle.pointer_machine.specs.declared.form.Form.TheVariants.{Act, Test, Inc, Dec, Clear, Set, Cmp}
-use Rattle.pointer_machine.specs.Operations.{operations, by_entry, params_of, arity_of, acts, tests, others, pairs_of, pairs}
+use Rattle.pointer_machine.specs.Operations.{operations_of, by_entry, params_of, arity_of, acts, tests, others, pairs_of, pairs}
 use Rattle.pointer_machine.proofs.Forms.{entry_of, All-by_entry, All-range}
 
 -- no item stands at two places
@@ -131,7 +131,7 @@ once-pairs pointers =
         omega arith)
 
 -- no operation has two numbers
-pub operations_once : (task : TaskParts) (pointers : ℕ) → Once (operations task pointers)
+pub operations_once : (task : TaskParts) (pointers : ℕ) → Once (operations_of task pointers)
 operations_once task pointers =
     let all = range_with_len 0 pointers in
     let moves : (k : ℕ) (form : ℕ → Form) → ((a b : ℕ) → form a ≡ form b → a ≡ b) → ((pointer : ℕ) → kind (form pointer) ≡ k) → (xs : List Form) → AreBelow k xs → AreBelow (suc k) (xs ++ map form all) = λ k form one_to_one own xs before.

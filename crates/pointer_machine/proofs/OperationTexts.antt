@@ -20,7 +20,7 @@ use Rattle.ground_state.specs.Action.{schema_of}
 use Rattle.ground_state.specs.Task.{IsTask, AreNames}
 use Rattle.pointer_machine.specs.declared.form.Form.{Form}
 use Rattle.pointer_machine.specs.declared.form.Form.TheVariants.{Act, Test, Inc, Dec, Clear, Set, Cmp}
-use Rattle.pointer_machine.specs.Operations.{operations, operation_count, predicate_of, IsForm}
+use Rattle.pointer_machine.specs.Operations.{operations_of, operation_count, predicate_of, IsForm}
 use Rattle.pointer_machine.specs.Texts.{pointer_text, then_pointer, form_text, operation_texts}
 use Rattle.pointer_machine.proofs.Counts.{length-operations}
 use Rattle.pointer_machine.proofs.Forms.{forms_of}
@@ -166,8 +166,8 @@ words_plain task pointers (Cmp pointer other) fit known = all_plain (codes "cmp"
 -- each text is plain words, joined by spaces
 pub texts-worded : (task : TaskParts) (pointers : ℕ) → IsTask task → All (λ text. IsWordedText text) (operation_texts task pointers)
 texts-worded task pointers fit =
-    All-map IsWordedText (form_text task) (operations task pointers)
-    (All-weaker (IsForm task pointers) (λ form. IsWordedText (form_text task form)) (λ form known. (words_of task form, words_some task form, words_plain task pointers form fit known, text_is task form)) (operations task pointers) (forms_of task pointers pointers (omega arith)))
+    All-map IsWordedText (form_text task) (operations_of task pointers)
+    (All-weaker (IsForm task pointers) (λ form. IsWordedText (form_text task form)) (λ form known. (words_of task form, words_some task form, words_plain task pointers form fit known, text_is task form)) (operations_of task pointers) (forms_of task pointers pointers (omega arith)))
 
 -- no plain byte is a space
 byte_solid : (b : ℕ) → is_plain_byte b ≡ true → eqb b 32 ≡ false
@@ -267,9 +267,9 @@ same_operation task pointers one other fit few known other_known same =
     same_form task pointers one other fit few known other_known (sym words ∙ ap (slice_split (λ b. eqb b 32)) text ∙ others)
 
 -- no operation stands twice in the list
-pub operations-apart : (task : TaskParts) (pointers : ℕ) → pointers ≤ 4 → AllPairs (λ one other. one ≢ other) (operations task pointers)
+pub operations-apart : (task : TaskParts) (pointers : ℕ) → pointers ≤ 4 → AllPairs (λ one other. one ≢ other) (operations_of task pointers)
 operations-apart task pointers few i j d before within same =
-    let all = operations task pointers in
+    let all = operations_of task pointers in
     let first = slice_get-get_or all i d (omega arith) in
     let second = slice_get-get_or all j d within in
     let place : i ≡ j = operations_once task pointers i j (get_or all j d) (first ∙ ap (λ form. Some form) same) second in
@@ -278,7 +278,7 @@ operations-apart task pointers few i j d before within same =
 -- no two operations have the same text
 pub texts-apart : (task : TaskParts) (pointers : ℕ) → IsTask task → pointers ≤ 4 → AllPairs (λ one other. one ≢ other) (operation_texts task pointers)
 texts-apart task pointers fit few i j d before within same =
-    let all = operations task pointers in
+    let all = operations_of task pointers in
     let forms = forms_of task pointers pointers (omega arith) in
     let far : j < length all = omega (arith, length-map all (form_text task)) in
     let near : i < length all = omega arith in
@@ -297,7 +297,7 @@ form_no_end task (Set pointer other) same = cc
 form_no_end task (Cmp pointer other) same = cc
 
 pub texts-no_end : (task : TaskParts) (pointers : ℕ) → All (λ text. text ≢ codes "end") (operation_texts task pointers)
-texts-no_end task pointers = All-map (λ text. text ≢ codes "end") (form_text task) (operations task pointers) (λ n d within. form_no_end task _)
+texts-no_end task pointers = All-map (λ text. text ≢ codes "end") (form_text task) (operations_of task pointers) (λ n d within. form_no_end task _)
 
 -- no text begins as a jump does
 form_no_jump : (task : TaskParts) (form : Form) → starts_with nat_eq (form_text task form) (codes "goto ") ≡ false
@@ -310,8 +310,8 @@ form_no_jump task (Set pointer other) = refl
 form_no_jump task (Cmp pointer other) = refl
 
 pub texts-no_jump : (task : TaskParts) (pointers : ℕ) → All (λ text. starts_with nat_eq text (codes "goto ") ≡ false) (operation_texts task pointers)
-texts-no_jump task pointers = All-map (λ text. starts_with nat_eq text (codes "goto ") ≡ false) (form_text task) (operations task pointers) (λ n d within. form_no_jump task _)
+texts-no_jump task pointers = All-map (λ text. starts_with nat_eq text (codes "goto ") ≡ false) (form_text task) (operations_of task pointers) (λ n d within. form_no_jump task _)
 
 -- there are as many texts as operations
 pub length-operation_texts : (task : TaskParts) (pointers : ℕ) → length (operation_texts task pointers) ≡ operation_count task pointers
-length-operation_texts task pointers = length-map (operations task pointers) (form_text task) ∙ length-operations task pointers
+length-operation_texts task pointers = length-map (operations_of task pointers) (form_text task) ∙ length-operations task pointers

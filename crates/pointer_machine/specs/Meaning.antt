@@ -1,20 +1,21 @@
 -- What the operations do: a value is the objects of the pointers, a sign, and a state of the instance's ground atoms.
-use Rattle.std.specs.Prelude.{◌≡◌, ℕ, ◌+◌, ◌-◌, ◌<◌, ℤ, pos, ◌-ℤ◌, nat_lt, List, [], ◌∷◌, map, length, slice_get, slice_index, slice_set, slice_index_or, All, Option, Some, None, if◌then◌else◌}
+use Rattle.std.specs.Prelude.{◌≡◌, ℕ, ◌+◌, ◌-◌, ◌<◌, ◌≤◌, ℤ, pos, ◌-ℤ◌, nat_lt, List, [], map, replicate, length, slice_get, slice_index, slice_set, slice_index_or, All, Option, Some, None, if◌then◌else◌}
 use Rattle.flag_rules.specs.Flags.{sign_of_int}
 use Rattle.flag_rules.specs.declared.flags.Sign.TheVariants as signs
+use Rattle.program_model.specs.declared.machine.TheConstants.{MAX_POINTERS}
 use Rattle.program_model.specs.Semantics.{Semantics}
 use Rattle.ground_state.specs.declared.parts.TaskParts.{TaskParts}
 use Rattle.ground_state.specs.State.{State, is_true, missing}
 use Rattle.ground_state.specs.Ground.{Ground, IsStateOf}
-use Rattle.ground_state.specs.Action.{is_applicable, acted}
+use Rattle.ground_state.specs.Action.{is_applicable, state_after}
 use Rattle.pointer_machine.specs.declared.form.Form.{Form}
 use Rattle.pointer_machine.specs.declared.form.Form.TheVariants.{Act, Test, Inc, Dec, Clear, Set, Cmp}
 use Rattle.pointer_machine.specs.declared.pointing.Pointing.{Pointing}
-use Rattle.pointer_machine.specs.Operations.{operations}
+use Rattle.pointer_machine.specs.Operations.{operations_of}
 
 -- the objects that some pointers stand at
-abbrev pub pointed : List ℕ → List ℕ → List ℕ
-pointed pointers args = map (slice_index pointers) args
+abbrev pub objects_at : List ℕ → List ℕ → List ℕ
+objects_at pointers args = map (slice_index pointers) args
 
 -- what an operation comes to: the pointers, the state, and its result
 pub record Effect : Type 0 where
@@ -32,13 +33,13 @@ pub record Effect : Type 0 where
 abbrev pub effect : TaskParts → Ground → Form → List ℕ → State → Effect
 effect task table (Act schema args) pointers atoms = record {
   pointers = pointers;
-  atoms = acted task table schema (pointed pointers args) atoms;
-  res = pos (if is_applicable task table schema (pointed pointers args) atoms then 1 else 0);
+  atoms = state_after task table schema (objects_at pointers args) atoms;
+  res = pos (if is_applicable task table schema (objects_at pointers args) atoms then 1 else 0);
 }
 effect task table (Test pred args) pointers atoms = record {
   pointers = pointers;
   atoms = atoms;
-  res = pos (if is_true (length table.object_types) table.arities atoms (record { pred = pred; args = pointed pointers args }) then 1 else 0);
+  res = pos (if is_true (length table.object_types) table.arities atoms (record { pred = pred; args = objects_at pointers args }) then 1 else 0);
 }
 effect task table (Inc pointer) pointers atoms =
     if nat_lt (slice_index pointers pointer + 1) (length table.object_types)
@@ -65,13 +66,13 @@ abbrev pub after : Effect → Pointing
 after done = record { pointers = done.pointers; sign = sign_of_int done.res; atoms = done.atoms }
 
 -- a value after an operation, if it is one
-abbrev pub operated : TaskParts → Ground → Option Form → Pointing → Pointing
-operated task table None value = value
-operated task table (Some form) value = after (effect task table form value.pointers value.atoms)
+abbrev pub value_after : TaskParts → Ground → Option Form → Pointing → Pointing
+value_after task table None value = value
+value_after task table (Some form) value = after (effect task table form value.pointers value.atoms)
 
 -- the start of an instance: all pointers at object 0, the sign negative, and the initial atoms
 abbrev pub start : Ground → Pointing
-start table = record { pointers = 0 ∷ 0 ∷ 0 ∷ 0 ∷ []; sign = signs.Negative; atoms = table.initial }
+start table = record { pointers = replicate MAX_POINTERS 0; sign = signs.Negative; atoms = table.initial }
 
 -- the table of an instance; a number past the last has one without objects
 abbrev pub table_at : List Ground → ℕ → Ground
@@ -81,16 +82,18 @@ table_at tables t = slice_index_or tables t (record { object_types = []; arities
 abbrev pub meaning : TaskParts → List Ground → ℕ → Semantics Pointing
 meaning task tables pointers = record {
   instances = length tables;
-  ops = length (operations task pointers);
+  ops = length (operations_of task pointers);
   pointers = pointers;
   start = λ t. start (table_at tables t);
-  act = λ t op value. operated task (table_at tables t) (slice_get (operations task pointers) op) value;
+  act = λ t op value. value_after task (table_at tables t) (slice_get (operations_of task pointers) op) value;
   sign = λ (value : Pointing). value.sign;
   missing = λ t (value : Pointing). missing (table_at tables t).goal value.atoms;
 }
 
--- the value is one of an instance: a table of pointers, each at an object of it, and a state of its atoms
-pub record IsValueOf (table : Ground) (value : Pointing) : Type 0 where
-  pub pointers : length value.pointers ≡ 4
+-- the value is one of an instance, on a machine of so many pointers: each pointer is at an object of the instance, those past the
+-- machine's at object 0, and the atoms are a state of the instance
+pub record IsValueOf (table : Ground) (used : ℕ) (value : Pointing) : Type 0 where
+  pub pointers : length value.pointers ≡ MAX_POINTERS
   pub objects : All (λ object. object < length table.object_types) value.pointers
+  pub unused : (pointer : ℕ) → used ≤ pointer → slice_index value.pointers pointer ≡ 0
   pub atoms : IsStateOf table value.atoms

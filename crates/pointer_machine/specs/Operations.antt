@@ -53,8 +53,8 @@ pairs pointers = flat_map (pairs_of pointers) (range_with_len 0 pointers)
 
 -- all operations over so many pointers: acting, testing, moving each pointer on, back and to object 0, and then setting and
 -- comparing each pointer with each other one
-abbrev pub operations : TaskParts → ℕ → List Form
-operations task pointers =
+abbrev pub operations_of : TaskParts → ℕ → List Form
+operations_of task pointers =
     acts task pointers
     ++ tests task pointers
     ++ map Inc (range_with_len 0 pointers)

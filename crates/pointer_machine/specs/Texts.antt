@@ -4,7 +4,7 @@ use Rattle.ground_state.specs.declared.parts.TaskParts.{TaskParts}
 use Rattle.ground_state.specs.Action.{schema_of}
 use Rattle.pointer_machine.specs.declared.form.Form.{Form}
 use Rattle.pointer_machine.specs.declared.form.Form.TheVariants.{Act, Test, Inc, Dec, Clear, Set, Cmp}
-use Rattle.pointer_machine.specs.Operations.{operations, predicate_of}
+use Rattle.pointer_machine.specs.Operations.{operations_of, predicate_of}
 
 -- a pointer is a `p` and its number
 abbrev pub pointer_text : ℕ → List ℕ
@@ -26,4 +26,4 @@ form_text task (Cmp pointer other) = codes "cmp" ++ flat_map then_pointer (point
 
 -- the texts of all operations, in order
 abbrev pub operation_texts : TaskParts → ℕ → List (List ℕ)
-operation_texts task pointers = map (form_text task) (operations task pointers)
+operation_texts task pointers = map (form_text task) (operations_of task pointers)

@@ -60,7 +60,7 @@ impl Eq for Args {
     ghost laws = { Prim.search (comparing, rules) };
 }
 
-/// An operation of a machine over ground atoms. Pointers are numbered from 0. Own.
+/// An operation of a machine over ground atoms. Pointers are numbered from 0.
 #[derive(Debug, PartialEq, Eq, Drop)]
 pub enum Form {
     /// Acts by the action schema of a number at the objects that the pointers stand at, where that is applicable.

@@ -1,4 +1,6 @@
-//! The machine over pointers, a sign and ground atoms, on which planning programs run.
+//! The machine over pointers, a sign and ground atoms, on which planning programs run. In `specs/` read `Operations`
+//! first, then `Meaning`, which says what each operation does and which values are those of an instance, and `Machine`;
+//! `Texts` says how operations are written. All of them is to be believed: no room is kept for private functions.
 #![tactic(auto)]
 
 mod form;

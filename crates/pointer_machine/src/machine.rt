@@ -2,7 +2,7 @@ ghost use Rattle.std.specs.Prelude.{◌≡◌, ◌<◌, ◌≤◌, length, slice
 ghost use Rattle.ground_state.specs.Action.{IsTableOf};
 ghost use Rattle.program_model.specs.declared.alphabet.TheConstants.{MAX_OPS};
 ghost use Rattle.program_model.specs.declared.machine.TheConstants.{MAX_INSTANCES, MAX_POINTERS};
-ghost use Rattle.pointer_machine.specs.Operations.{operations, operation_count};
+ghost use Rattle.pointer_machine.specs.Operations.{operations_of, operation_count};
 ghost use Rattle.pointer_machine.specs.Meaning.{IsValueOf, table_at};
 ghost use Rattle.pointer_machine.specs.Texts.{operation_texts};
 ghost use Rattle.pointer_machine.specs.Machine.{meaning_of};
@@ -32,7 +32,7 @@ pub struct PointerMachine {
 
 impl Model for PointerMachine {
     ghost use Rattle.std.specs.Prelude.{◌≡◌};
-    ghost use Rattle.pointer_machine.specs.Operations.{operations};
+    ghost use Rattle.pointer_machine.specs.Operations.{operations_of};
     ghost use Rattle.pointer_machine.specs.Machine.{MachineParts, AreMachineParts};
 
     ghost Value = { MachineParts };
@@ -49,7 +49,7 @@ impl Model for PointerMachine {
           tables = machine.tables.items;
           pointers = machine.pointers;
         })
-        × (machine.forms.items ≡ operations machine.task machine.pointers) };
+        × (machine.forms.items ≡ operations_of machine.task machine.pointers) };
 }
 
 impl PointerMachine {
@@ -89,8 +89,8 @@ impl PointerMachine {
 
     /// The operation of a number.
     pub fn form(&self, op: u32) -> &Form
-        requires { op < length (operations self.now.task self.now.pointers) }
-        ensures { slice_get (operations self.now.task self.now.pointers) op ≡ Some result.now }
+        requires { op < length (operations_of self.now.task self.now.pointers) }
+        ensures { slice_get (operations_of self.now.task self.now.pointers) op ≡ Some result.now }
     {
         &self.forms[op as usize]
     }
@@ -98,8 +98,8 @@ impl PointerMachine {
     /// The number of an operation, if it is one of this machine.
     pub fn op_of(&self, form: &Form) -> Option<u32>
         ensures { MatchOption result
-            (¬ Contains (operations self.now.task self.now.pointers) form.now)
-            (λ op. slice_get (operations self.now.task self.now.pointers) op ≡ Some form.now) }
+            (¬ Contains (operations_of self.now.task self.now.pointers) form.now)
+            (λ op. slice_get (operations_of self.now.task self.now.pointers) op ≡ Some form.now) }
     {
         let op = place_of(self.forms.as_slice(), form)?;
         Some(op as u32)
@@ -120,7 +120,8 @@ impl Machine for PointerMachine {
 
     ghost semantics = { meaning_of };
 
-    ghost belongs = { λ machine t value. (t < length machine.tables) × IsValueOf (table_at machine.tables t) value };
+    ghost belongs = { λ machine t value.
+        (t < length machine.tables) × IsValueOf (table_at machine.tables t) machine.pointers value };
 
     ghost acts = { λ meter. meter.acts };
 
@@ -160,13 +161,11 @@ impl Machine for PointerMachine {
     }
 
     fn same(&self, a: &Pointing, b: &Pointing) -> bool {
-        a.pointers == b.pointers && a.sign == b.sign && a.atoms.equals(&b.atoms)
+        a.equals(b)
     }
 
     fn copy_into(&self, from: &Pointing, to: &mut Pointing, meter: &mut Meter) {
-        to.pointers = from.pointers;
-        to.sign = from.sign;
-        from.atoms.copy_into(&mut to.atoms);
+        from.copy_into(to);
         meter.copies = meter.copies.saturating_add(1);
     }
 

@@ -1,10 +1,10 @@
-ghost use Rattle.std.specs.Prelude.{◌≡◌, ◌^◌, ◌<◌, ◌≤◌, ◌++◌, Some, Contains, IfOk, MatchOption, OnOk, length, map, slice_get};
+ghost use Rattle.std.specs.Prelude.{◌≡◌, ◌*◌, ◌^◌, ◌<◌, ◌≤◌, ◌++◌, Some, Contains, IfOk, MatchOption, OnOk, length, map, slice_get};
 ghost use Rattle.std.specs.List.{range_with_len};
 ghost use Rattle.ground_state.specs.declared.parts.TheConstants.{MAX_ARITY, MAX_PARAMETERS};
 ghost use Rattle.ground_state.specs.GroundAtoms.{tuples};
 ghost use Rattle.program_model.specs.declared.machine.TheConstants.{MAX_POINTERS};
 ghost use Rattle.pointer_machine.specs.declared.form.Form.TheVariants as forms;
-ghost use Rattle.pointer_machine.specs.Operations.{operations, operation_count, count_by_entry, params_of, arity_of, acts, tests, pairs_of, pairs};
+ghost use Rattle.pointer_machine.specs.Operations.{operations_of, operation_count, count_by_entry, params_of, arity_of, acts, tests, pairs_of, pairs};
 
 use crate::form::{Args, Form};
 use flag_rules::OutOfMemory;
@@ -26,7 +26,7 @@ pub(crate) fn count_operations(task: &Task, pointers: u8) -> u64
 fn count_acts(task: &Task, pointers: u8) -> u64
     requires { pointers ≤ MAX_POINTERS }
     ensures count { result ≡ count_by_entry params_of pointers task.now.schemas }
-    ensures fits { result < 2 ^ 45 }
+    ensures fits { result < 2 ^ 32 * MAX_POINTERS ^ MAX_PARAMETERS }
 {
     let mut count = 0;
     for schema in task.parts().schemas.as_slice() {
@@ -39,7 +39,7 @@ fn count_acts(task: &Task, pointers: u8) -> u64
 fn count_tests(task: &Task, pointers: u8) -> u64
     requires { pointers ≤ MAX_POINTERS }
     ensures count { result ≡ count_by_entry arity_of pointers task.now.predicates }
-    ensures fits { result < 2 ^ 45 }
+    ensures fits { result < 2 ^ 32 * MAX_POINTERS ^ MAX_PARAMETERS }
 {
     let mut count = 0;
     for predicate in task.parts().predicates.as_slice() {
@@ -56,7 +56,7 @@ pub(crate) fn list_operations(
 ) -> Result<Vec<Form>, OutOfMemory>
     requires some { 0 < pointers }
     requires few { pointers ≤ MAX_POINTERS }
-    ensures { IfOk result (λ listed. listed.items ≡ operations task.now pointers) }
+    ensures { IfOk result (λ listed. listed.items ≡ operations_of task.now pointers) }
 {
     let mut listed = Vec::new(alloc);
     list_acts(alloc, task, pointers, &mut listed)?;

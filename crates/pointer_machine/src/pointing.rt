@@ -1,12 +1,12 @@
-ghost use Rattle.std.specs.Prelude.{◌≡◌, ◌+◌, ◌-◌, ◌<◌, ◌≤◌, All, pos, IfOk, length, map, nat_lt, slice_index, slice_set, take, if◌then◌else◌};
+ghost use Rattle.std.specs.Prelude.{◌≡◌, ◌↔◌, ◌+◌, ◌-◌, ◌<◌, ◌≤◌, All, IsTrue, pos, IfOk, length, map, nat_lt, slice_index, slice_set, take, if◌then◌else◌};
 ghost use Rattle.ground_state.specs.declared.parts.TheConstants.{MAX_PARAMETERS};
-ghost use Rattle.ground_state.specs.Action.{IsTableOf, acted, is_applicable};
+ghost use Rattle.ground_state.specs.Action.{IsTableOf, state_after, is_applicable};
 ghost use Rattle.ground_state.specs.State.{is_true};
 ghost use Rattle.ground_state.specs.Ground.{IsStateOf};
 ghost use Rattle.program_model.specs.declared.machine.TheConstants.{MAX_POINTERS};
 ghost use Rattle.pointer_machine.specs.declared.form.Form.TheVariants as forms;
 ghost use Rattle.pointer_machine.specs.Operations.{IsForm};
-ghost use Rattle.pointer_machine.specs.Meaning.{IsValueOf, after, effect, pointed, start};
+ghost use Rattle.pointer_machine.specs.Meaning.{IsValueOf, after, effect, objects_at, start};
 
 use crate::form::Form;
 use flag_rules::{OutOfMemory, Sign, sign_of};
@@ -15,7 +15,7 @@ use program_model::MAX_POINTERS;
 use std::alloc::Global;
 
 /// A value of the machine over ground atoms: the object numbers of the pointers, the sign of the last result, and the
-/// atoms that are true. The pointers past those of the machine are 0 at the start, and no operation moves them. Own.
+/// atoms that are true. The pointers past those of the machine are 0.
 #[derive(Debug, Drop)]
 pub struct Pointing {
     pub pointers: [u16; MAX_POINTERS as usize],
@@ -37,7 +37,7 @@ impl Pointing {
 
     /// Makes this value the start of its instance.
     pub(crate) fn reset(&mut self, table: &AtomTable)
-        requires { IsValueOf table.now self.old }
+        requires { IsStateOf table.now self.old.atoms }
         ensures { self.new ≡ start table.now }
     {
         self.pointers = [0; MAX_POINTERS as usize];
@@ -45,13 +45,31 @@ impl Pointing {
         self.atoms.reset(table);
     }
 
+    /// Makes another value of the same instance equal to this one.
+    pub(crate) fn copy_into(&self, to: &mut Pointing)
+        requires { length to.old.atoms ≡ length self.now.atoms }
+        ensures { to.new ≡ self.now }
+    {
+        to.pointers = self.pointers;
+        to.sign = self.sign;
+        self.atoms.copy_into(&mut to.atoms);
+    }
+
+    /// Whether two values are equal, their signs included.
+    pub(crate) fn equals(&self, other: &Pointing) -> bool
+        ensures { IsTrue result ↔ (self.now ≡ other.now) }
+    {
+        self.pointers == other.pointers
+            && self.sign == other.sign
+            && self.atoms.equals(&other.atoms)
+    }
+
     /// Makes an operation on this value.
     pub(crate) fn operate(&mut self, task: &Task, table: &AtomTable, form: &Form)
         requires table { IsTableOf task.now table.now }
-        requires value { IsValueOf table.now self.old }
+        requires value { IsValueOf table.now MAX_POINTERS self.old }
         requires form { IsForm task.now MAX_POINTERS form.now }
-        ensures done { self.new ≡ after (effect task.now table.now form.now self.old.pointers self.old.atoms) }
-        ensures value { IsValueOf table.now self.new }
+        ensures { self.new ≡ after (effect task.now table.now form.now self.old.pointers self.old.atoms) }
     {
         let res = self.take_effect(task, table, form);
         self.sign = sign_of(res);
@@ -60,7 +78,7 @@ impl Pointing {
     /// Makes all of an operation but for its sign, and gives its result.
     fn take_effect(&mut self, task: &Task, table: &AtomTable, form: &Form) -> i64
         requires table { IsTableOf task.now table.now }
-        requires value { IsValueOf table.now self.old }
+        requires value { IsValueOf table.now MAX_POINTERS self.old }
         requires form { IsForm task.now MAX_POINTERS form.now }
         ensures res { result
             ≡ (effect task.now table.now form.now self.old.pointers self.old.atoms).res }
@@ -68,7 +86,6 @@ impl Pointing {
             ≡ (effect task.now table.now form.now self.old.pointers self.old.atoms).pointers }
         ensures atoms { self.new.atoms
             ≡ (effect task.now table.now form.now self.old.pointers self.old.atoms).atoms }
-        ensures value { IsValueOf table.now self.new }
     {
         match form {
             Form::Act { schema, args } => {
@@ -90,38 +107,38 @@ impl Pointing {
     /// Acts by a schema at the objects that some pointers stand at, where that is applicable, and says whether it was.
     fn act_at(&mut self, task: &Task, table: &AtomTable, schema: u32, args: &[u8]) -> bool
         requires table { IsTableOf task.now table.now }
-        requires value { IsValueOf table.now self.old }
+        requires value { IsValueOf table.now MAX_POINTERS self.old }
         requires form { IsForm task.now MAX_POINTERS (forms.Act schema args.now) }
         requires few { length args.now ≤ MAX_PARAMETERS }
         ensures applicable { result
-            ≡ is_applicable task.now table.now schema (pointed self.old.pointers args.now) self.old.atoms }
+            ≡ is_applicable task.now table.now schema (objects_at self.old.pointers args.now) self.old.atoms }
         ensures pointers { self.new.pointers ≡ self.old.pointers }
         ensures atoms { self.new.atoms
-            ≡ acted task.now table.now schema (pointed self.old.pointers args.now) self.old.atoms }
+            ≡ state_after task.now table.now schema (objects_at self.old.pointers args.now) self.old.atoms }
         ensures fits { IsStateOf table.now self.new.atoms }
     {
-        let objects = self.pointed(args);
+        let objects = self.objects_at(args);
         apply(task, table, schema, &objects[..args.len()], &mut self.atoms)
     }
 
     /// Whether the atom of a predicate at the objects that some pointers stand at is true.
     fn is_true_at(&self, task: &Task, table: &AtomTable, pred: u32, args: &[u8]) -> bool
         requires table { IsTableOf task.now table.now }
-        requires value { IsValueOf table.now self.now }
+        requires value { IsValueOf table.now MAX_POINTERS self.now }
         requires form { IsForm task.now MAX_POINTERS (forms.Test pred args.now) }
         requires few { length args.now ≤ MAX_PARAMETERS }
         ensures { result ≡ is_true (length table.now.object_types) table.now.arities self.now.atoms
-            (record { pred = pred; args = pointed self.now.pointers args.now }) }
+            (record { pred = pred; args = objects_at self.now.pointers args.now }) }
     {
-        let objects = self.pointed(args);
+        let objects = self.objects_at(args);
         self.atoms.holds(table, pred, &objects[..args.len()])
     }
 
     /// The objects that some pointers stand at, in the first places of an array.
-    fn pointed(&self, args: &[u8]) -> [u16; MAX_PARAMETERS]
+    fn objects_at(&self, args: &[u8]) -> [u16; MAX_PARAMETERS]
         requires few { length args.now ≤ MAX_PARAMETERS }
         requires known { All (λ pointer. pointer < length self.now.pointers) args.now }
-        ensures { take (length args.now) result ≡ pointed self.now.pointers args.now }
+        ensures { take (length args.now) result ≡ objects_at self.now.pointers args.now }
     {
         let mut objects = [0; MAX_PARAMETERS];
         for (place, pointer) in args.iter().enumerate() {

@@ -21,9 +21,9 @@ are_true_at-requires-clause-atoms c =
 pub returns-then-are_of_types-clause-applicable : goal.returns-then-are_of_types-clause-applicable
 returns-then-are_of_types-clause-applicable c =
     let tested : c.are_true_at.result ≡ is_applicable c.args.task.now c.args.table.now c.args.schema c.args.args.now c.args.atoms.now = grind (arith, common_steps) in
-    applicable_exactly c.args.task.now c.args.table.now c.args.schema c.args.args.now c.args.atoms.now c.are_true_at.result c.parts.ensures.fit c.requires.table c.requires.action tested
+    applicable_exactly c.args.task.now c.args.table.now c.args.schema c.args.args.now c.args.atoms.now c.are_true_at.result c.parts.ensures.fit c.requires.action tested
 
 pub returns-else-are_of_types-clause-applicable : goal.returns-else-are_of_types-clause-applicable
 returns-else-are_of_types-clause-applicable c =
     let tested : c.are_of_types.result ≡ is_applicable c.args.task.now c.args.table.now c.args.schema c.args.args.now c.args.atoms.now = grind (arith, common_steps) in
-    applicable_exactly c.args.task.now c.args.table.now c.args.schema c.args.args.now c.args.atoms.now c.are_of_types.result c.parts.ensures.fit c.requires.table c.requires.action tested
+    applicable_exactly c.args.task.now c.args.table.now c.args.schema c.args.args.now c.args.atoms.now c.are_of_types.result c.parts.ensures.fit c.requires.action tested

@@ -4,7 +4,7 @@ use Rattle.ground_state.proofs.types.reaches.Goals as goal
 
 pub returns-then-at-above : goal.returns-then-at-above
 returns-then-at-above c =
-    reached_here c.args.types.now c.args.number c.args.above c.loop.at c.loop.index c.loop-test.true c.loop.invariant.0 c.if-at-above.true
+    reached_here c.args.types.now c.args.number c.args.above c.loop.at c.loop.index c.requires.number c.loop-test.true c.loop.invariant.0 c.if-at-above.true
 
 pub bounds-types-at : goal.bounds-types-at
 bounds-types-at c = at_within c.args.types.now c.args.number c.loop.at c.loop.index c.requires.types c.requires.number c.loop.invariant.0
