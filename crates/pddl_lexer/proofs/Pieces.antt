@@ -8,7 +8,8 @@ use Rattle.pddl_lexer.specs.declared.lexer.Kind.TheVariants.{LeftParen, RightPar
 use Rattle.pddl_lexer.specs.declared.lexer.Token.{Token}
 use Rattle.pddl_lexer.specs.declared.lexer.Piece.{Piece}
 use Rattle.pddl_lexer.specs.declared.lexer.Piece.TheVariants.{Passed, Spelled, Stray}
-use Rattle.pddl_lexer.specs.Lexing.{is_blank, starts_name, name_len, comment_len, piece_of, before, IsWithin, from_piece, tokens_at, InOrder, AreWithin}
+use Rattle.pddl_lexer.specs.Lexing.{is_blank, starts_name, name_len, comment_len, piece_of, before, from_piece, tokens_at, InOrder}
+use Rattle.pddl_lexer.specs.Inner.Spans.{IsWithin, AreWithin}
 
 record Fitting (piece : Piece) (room : ℕ) : Type 0 where
   within : IsWithin piece room

@@ -44,12 +44,6 @@ piece_of b bs =
     else (if b == 45 then Spelled Dash 1
     else Stray))))))))
 
--- a piece has at least one byte, and at most as many as stand there
-abbrev pub IsWithin : Piece → ℕ → Type 0
-IsWithin (Passed count) room = (0 < count) × (count ≤ room)
-IsWithin (Spelled kind count) room = (0 < count) × (count ≤ room)
-IsWithin Stray room = Unit {0}
-
 -- a token before other tokens, if these could be read
 abbrev pub before : Token → Result (List Token) ℕ → Result (List Token) ℕ
 before token (Ok tokens) = Ok (token ∷ tokens)
@@ -81,8 +75,3 @@ Gives (Err OutOfMemory) all = Unit {0}
 abbrev pub InOrder : ℕ → ℕ → List Token → Type 0
 InOrder low high [] = Unit {0}
 InOrder low high (t ∷ ts) = (low ≤ t.from) × (t.from < t.to) × (t.to ≤ high) × InOrder t.to high ts
-
--- the bytes of each token stand within the text
-abbrev pub AreWithin : List ℕ → List Token → Type 0
-AreWithin bytes [] = Unit {0}
-AreWithin bytes (t ∷ ts) = (t.from ≤ t.to) × (t.to ≤ length bytes) × AreWithin bytes ts

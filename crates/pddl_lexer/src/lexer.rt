@@ -1,14 +1,12 @@
 ghost use Rattle.std.specs.Prelude.{◌≡◌, ◌+◌, ◌≤◌, length, IfOk};
-ghost use Rattle.pddl_lexer.specs.Lexing.{is_blank, ends_line, name_len, comment_len, starts_name, piece_of, tokens_of, IsWithin, Gives, InOrder};
+ghost use Rattle.pddl_lexer.specs.Lexing.{is_blank, ends_line, name_len, comment_len, starts_name, piece_of, tokens_of, Gives, InOrder};
+ghost use Rattle.pddl_lexer.specs.Inner.Spans.{IsWithin};
 ghost use Rattle.flag_rules.specs.Name.{begins_name, is_name_byte};
 ghost use Rattle.pddl_lexer.specs.declared.lexer.LexRefusal.TheVariants.{OutOfMemory as NoMemory};
 
-use flag_rules::{List, OutOfMemory};
+use flag_rules::{List, MAX_FILE_BYTES, OutOfMemory};
 use std::alloc::Global;
 use thiserror::Error;
-
-/// How many bytes a text may have at most: one mebibyte.
-pub const LONGEST: usize = 1_048_576;
 
 const FORM_FEED: u8 = 12;
 
@@ -131,7 +129,7 @@ fn front_piece(first: u8, after: &[u8]) -> Piece
 
 /// The tokens of bytes, in order. `Byte` has the place of the first byte that begins no token.
 pub fn tokens(alloc: Global, bytes: &[u8]) -> Result<List<Token>, LexRefusal>
-    requires { length bytes.now ≤ LONGEST }
+    requires { length bytes.now ≤ MAX_FILE_BYTES }
     ensures exact { Gives result (tokens_of bytes.now) }
     ensures spans { IfOk result (λ tokens. InOrder 0 (length bytes.now) tokens) }
 {

@@ -4,16 +4,17 @@ use Rattle.std.specs.List.{list_any}
 use Rattle.std.proofs.lemmas.List.{length-append}
 use Rattle.std.proofs.lemmas.Slice.Eq.{bytes_eq-Decides}
 use Rattle.pddl_lexer.specs.declared.lexer.Kind.TheVariants.{Keyword}
-use Rattle.pddl_parser.specs.declared.stop.Why.TheVariants.{Shape, Unsupported}
-use Rattle.pddl_parser.specs.Lexemes.{Lexeme, name, keyword, gap}
-use Rattle.pddl_parser.specs.Reading.{got, stuck, is_of, word_of}
-use Rattle.pddl_parser.specs.Grammar.{is_one_of, requirement_keywords}
-use Rattle.pddl_parser.specs.Offending.{part_keywords, IsOtherKeyword, IsUnsupported, other_section, other_requirement, other_part, reserved_head, either_type, IsKind}
-use Rattle.pddl_parser.specs.Choosing.{is_keyword, why_no_keyword, requirement, Choice, any_may, takes_key, after_key, choice_of}
-use Rattle.pddl_parser.proofs.Fronts.{same_got}
-use Rattle.pddl_parser.proofs.Readers.{Reader, Conforms, Passes-read, Outcome, passes, refuses, IsReader, reader-starts}
+use Rattle.pddl_forms.specs.declared.stop.Why.TheVariants.{Shape, Unsupported}
+use Rattle.pddl_forms.specs.Lexemes.{Lexeme, name, keyword, gap}
+use Rattle.pddl_forms.specs.Inner.Reading.{got, stuck, is_of, word_of}
+use Rattle.pddl_forms.specs.Forms.{is_one_of}
+use Rattle.pddl_forms.specs.Offending.{requirement_keywords}
+use Rattle.pddl_forms.specs.Offending.{part_keywords, IsOtherKeyword, IsUnsupported, other_section, other_requirement, other_part, reserved_head, either_type, IsKind}
+use Rattle.pddl_parser.specs.Inner.Choosing.{is_keyword, why_no_keyword, requirement, Choice, any_may, takes_key, after_key, choice_of}
+use Rattle.pddl_forms.proofs.Fronts.{same_got}
+use Rattle.pddl_forms.proofs.Readers.{Reader, Conforms, Passes-read, Outcome, passes, refuses, IsReader, reader-starts}
 use Rattle.pddl_parser.proofs.Offences.{Refuses-read}
-use Rattle.pddl_parser.proofs.Branches.{Branch, single, neither}
+use Rattle.pddl_forms.proofs.Branches.{Branch, single, neither}
 
 -- a keyword that was found
 pub keyword_found : (text : List ℕ) (t : Lexeme) → is_keyword text t ≡ true → (p : ℕ) × (t ≡ keyword text p)

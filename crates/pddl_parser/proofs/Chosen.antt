@@ -2,15 +2,15 @@
 use Rattle.std.proofs.Common.{◌≡◌, ℕ, zero, suc, Bool, true, false, not, cond, ◌||◌, ◌&&◌, List, [], ◌∷◌, drop, Result, Err, refl, sym, ap, ◌∙◌, subst}
 use Rattle.std.specs.List.{list_any}
 use Rattle.pddl_lexer.specs.declared.lexer.Kind.TheVariants.{LeftParen, Keyword}
-use Rattle.pddl_parser.specs.declared.stop.Why.{Why}
-use Rattle.pddl_parser.specs.declared.stop.Why.TheVariants.{Shape, Unsupported}
-use Rattle.pddl_parser.specs.declared.stop.Stop.{Stop}
-use Rattle.pddl_parser.specs.declared.stop.Stop.TheVariants.{Refused, OutOfMemory}
-use Rattle.pddl_parser.specs.Lexemes.{Lexeme}
-use Rattle.pddl_parser.specs.Grammar.{is_one_of}
-use Rattle.pddl_parser.specs.Reading.{Read, Reads, got, stuck, and_then, is_of, word_of, comes, comes_as, mark, in_list}
-use Rattle.pddl_parser.specs.Choosing.{is_keyword, why_no_keyword, Choice, any_may, takes_key, after_key, choice_of}
-use Rattle.pddl_parser.specs.SectionReading.{section_of}
+use Rattle.pddl_forms.specs.declared.stop.Why.{Why}
+use Rattle.pddl_forms.specs.declared.stop.Why.TheVariants.{Shape, Unsupported}
+use Rattle.pddl_forms.specs.declared.stop.Stop.{Stop}
+use Rattle.pddl_forms.specs.declared.stop.Stop.TheVariants.{Refused, OutOfMemory}
+use Rattle.pddl_forms.specs.Lexemes.{Lexeme}
+use Rattle.pddl_forms.specs.Forms.{is_one_of}
+use Rattle.pddl_forms.specs.Inner.Reading.{Read, Reads, got, stuck, and_then, is_of, word_of, comes, comes_as, mark, in_list}
+use Rattle.pddl_parser.specs.Inner.Choosing.{is_keyword, why_no_keyword, Choice, any_may, takes_key, after_key, choice_of}
+use Rattle.pddl_parser.specs.Inner.SectionReading.{section_of}
 
 -- one of these keywords comes first
 abbrev pub comes_key : List (List ℕ) → List Lexeme → Bool

@@ -3,23 +3,25 @@ use Rattle.std.proofs.Common.{◌≡◌, ℕ, ◌+◌, ◌<◌, ◌≤◌, false
 use Rattle.std.proofs.lemmas.List.{length-append, length-map}
 use Rattle.std.proofs.lemmas.List.Elements.{All-nil, All-push}
 use Rattle.pddl_lexer.specs.declared.lexer.Kind.TheVariants.{RightParen}
-use Rattle.pddl_parser.specs.declared.texts.Word.{Word}
-use Rattle.pddl_parser.specs.declared.texts.Typed.{Typed}
+use Rattle.pddl_forms.specs.declared.texts.Word.{Word}
+use Rattle.pddl_forms.specs.declared.texts.Typed.{Typed}
 use Rattle.pddl_parser.specs.declared.texts.DomainText.{DomainText}
 use Rattle.pddl_parser.specs.declared.texts.ProblemText.{ProblemText}
-use Rattle.pddl_parser.specs.declared.formulas.Terms.TheVariants.{Names, NamesAndVariables}
-use Rattle.pddl_parser.specs.declared.formulas.AtomChange.{AtomChange}
-use Rattle.pddl_parser.specs.declared.formulas.AtomChange.TheVariants.{Added, Deleted}
-use Rattle.pddl_parser.specs.Lexemes.{Lexeme, left, right, name, dash, gap}
+use Rattle.pddl_forms.specs.declared.formulas.Terms.TheVariants.{Names, NamesAndVariables}
+use Rattle.pddl_forms.specs.declared.texts.AtomChange.{AtomChange}
+use Rattle.pddl_forms.specs.declared.texts.AtomChange.TheVariants.{Added, Deleted}
+use Rattle.pddl_forms.specs.Lexemes.{Lexeme, left, right, name, dash, gap}
 use Rattle.pddl_parser.specs.Grammar
-use Rattle.pddl_parser.specs.Grammar.{word, typed, or_empty, IsNameWord, is_name_word, IsVariableWord, is_variable_word, IsRequirement, Many, Closed, closed, Opened, opened, IsSection, is_section, IsPart, is_part, IsOpening, is_opening}
-use Rattle.pddl_parser.specs.Grammar.{Group, last, with_next, TypedList, untyped_words, typed_group, open_group, IsGroundAtom, IsLiftedAtom, Conjunction, IsChange, added, deleted, IsNames, IsVariables, IsPredicate}
+use Rattle.pddl_forms.specs.Forms.{word, typed, IsNameWord, is_name_word, IsVariableWord, is_variable_word, Many, Closed, closed}
+use Rattle.pddl_parser.specs.Grammar.{or_empty, IsRequirement, Opened, opened, IsSection, is_section, IsPart, is_part, IsOpening, is_opening}
+use Rattle.pddl_forms.specs.Forms.{Group, last, with_next, TypedList, untyped_words, typed_group, open_group, IsGroundAtom, IsLiftedAtom, Conjunction, IsChange, added, deleted, IsNames, IsVariables}
+use Rattle.pddl_parser.specs.Grammar.{IsPredicate}
 use Rattle.pddl_parser.specs.Grammar.{ActionParts, no_parts, IsParts, action_of, IsAction, is_action, DomainSections, no_domain_sections, IsDomainSections, IsDomain, is_domain, ProblemSections, no_problem_sections, IsProblemSections, IsProblem, is_problem}
-use Rattle.pddl_parser.specs.Reading.{comes}
+use Rattle.pddl_forms.specs.Inner.Reading.{comes}
 use Rattle.pddl_parser.specs.Spelled.{IsActionWithin, IsDomainWithin, IsProblemWithin}
-use Rattle.pddl_parser.proofs.Items.{IsItem, Many-count}
-use Rattle.pddl_parser.proofs.Exact.{name_word_is_item, atom_is_item}
-use Rattle.pddl_parser.proofs.ConjunctionRules.{formula-count, effect-count}
+use Rattle.pddl_forms.proofs.ItemSteps.{IsItem, Many-count}
+use Rattle.pddl_forms.proofs.Exact.{name_word_is_item, atom_is_item}
+use Rattle.pddl_forms.proofs.ConjunctionRules.{formula-count, effect-count}
 use Rattle.pddl_parser.proofs.Sections.{requirement_is_item}
 use Rattle.pddl_parser.proofs.DomainRules.{predicate_is_item}
 

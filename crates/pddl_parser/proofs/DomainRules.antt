@@ -1,22 +1,25 @@
 -- Whole domains are read as the grammar says.
 use Rattle.std.proofs.Common.{◌≡◌, ℕ, true, false, inl, inr, List, [], ◌∷◌, ◌++◌, Some, codes, refl, ap, ◌∙◌, subst}
 use Rattle.pddl_lexer.specs.declared.lexer.Kind.TheVariants.{RightParen}
-use Rattle.pddl_parser.specs.declared.stop.Why.{Why}
+use Rattle.pddl_forms.specs.declared.stop.Why.{Why}
 use Rattle.pddl_parser.specs.declared.texts.PredText.{PredText}
 use Rattle.pddl_parser.specs.declared.texts.DomainText.{DomainText}
-use Rattle.pddl_parser.specs.Lexemes.{Lexeme, left, right, keyword}
-use Rattle.pddl_parser.specs.Grammar.{word, is_reserved, Many, IsHead, is_head, IsSection, is_section}
-use Rattle.pddl_parser.specs.Reading.{got, stuck, and_then, comes, many}
-use Rattle.pddl_parser.specs.Offending.{domain_keywords, Offends}
+use Rattle.pddl_forms.specs.Lexemes.{Lexeme, left, right, keyword}
+use Rattle.pddl_forms.specs.Forms.{word, is_reserved, Many, IsHead, is_head}
+use Rattle.pddl_parser.specs.Grammar.{IsSection, is_section}
+use Rattle.pddl_forms.specs.Inner.Reading.{got, stuck, and_then, comes, many}
+use Rattle.pddl_forms.specs.Offending.{domain_keywords, Offends}
 use Rattle.pddl_parser.specs.Grammar
-use Rattle.pddl_parser.specs.Grammar.{IsVariables, IsPredicate, is_predicate, DomainSections, no_domain_sections, IsDomainSections, domain_of, IsDomain, is_domain}
-use Rattle.pddl_parser.specs.Choosing.{choice_of, all_of}
-use Rattle.pddl_parser.specs.SectionReading.{predicate, domain_choices, section_of, domain_sections, domain}
-use Rattle.pddl_parser.proofs.Fronts.{and_then-cases, same_got, mark-left}
-use Rattle.pddl_parser.proofs.Items.{Parses, IsItem, parses_many}
-use Rattle.pddl_parser.proofs.Exact.{head-sound, head-complete, carried, parses_opening}
+use Rattle.pddl_forms.specs.Forms.{IsVariables}
+use Rattle.pddl_parser.specs.Grammar.{IsPredicate, is_predicate, DomainSections, no_domain_sections, IsDomainSections, domain_of, IsDomain, is_domain}
+use Rattle.pddl_parser.specs.Inner.Choosing.{choice_of, all_of}
+use Rattle.pddl_parser.specs.Inner.SectionReading.{predicate, domain_choices, section_of, domain_sections, domain}
+use Rattle.pddl_forms.proofs.Fronts.{and_then-cases, same_got, mark-left}
+use Rattle.pddl_forms.proofs.ItemSteps.{Parses, IsItem, parses_many}
+use Rattle.pddl_forms.proofs.Exact.{head-sound, head-complete, carried}
+use Rattle.pddl_parser.proofs.Openings.{parses_opening}
 use Rattle.pddl_parser.proofs.Offences.{whole-offends}
-use Rattle.pddl_parser.proofs.TypedRules.{parses_variables, parses_names}
+use Rattle.pddl_forms.proofs.TypedRules.{parses_variables, parses_names}
 use Rattle.pddl_parser.proofs.Turns.{turn-is, turns-sound}
 use Rattle.pddl_parser.proofs.SectionReaders.{predicate-shrinks, sections-step, domain-reader}
 use Rattle.pddl_parser.proofs.SectionRules.{IsChoice, none_is, parses_action_of_parts}

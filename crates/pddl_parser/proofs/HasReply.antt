@@ -5,18 +5,18 @@ use Rattle.pddl_lexer.specs.declared.parentheses.Misplaced.{Misplaced}
 use Rattle.pddl_lexer.specs.declared.parentheses.Misplaced.TheVariants as parentheses
 use Rattle.pddl_lexer.specs.Lexing.{tokens_of}
 use Rattle.pddl_lexer.specs.Parentheses.{misplaced_in}
-use Rattle.pddl_parser.specs.declared.stop.Why.{Why}
-use Rattle.pddl_parser.specs.declared.stop.Why.TheVariants as kinds
+use Rattle.pddl_forms.specs.declared.stop.Why.{Why}
+use Rattle.pddl_forms.specs.declared.stop.Why.TheVariants as kinds
 use Rattle.pddl_parser.specs.declared.refusal.ParseRefusal.{ParseRefusal}
 use Rattle.pddl_parser.specs.declared.refusal.ParseRefusal.TheVariants.{Byte, Unclosed, Unopened, TooDeep, Shape, Unsupported, OutOfMemory}
-use Rattle.pddl_parser.specs.Lexemes.{Lexeme, lexemes}
-use Rattle.pddl_parser.specs.Reading.{Read, got, stuck}
-use Rattle.pddl_parser.specs.Choosing.{ended, all_of}
-use Rattle.pddl_parser.specs.Offending.{Offends}
-use Rattle.pddl_parser.specs.Answering.{unless_misplaced, ordered, reply_to_read, reply_to_tokens, reply_by}
+use Rattle.pddl_forms.specs.Lexemes.{Lexeme, lexemes}
+use Rattle.pddl_forms.specs.Inner.Reading.{Read, got, stuck}
+use Rattle.pddl_parser.specs.Inner.Choosing.{ended, all_of}
+use Rattle.pddl_forms.specs.Offending.{Offends}
+use Rattle.pddl_parser.specs.Inner.Answering.{unless_misplaced, ordered, reply_to_read, reply_to_tokens, reply_by}
 use Rattle.pddl_parser.specs.Replies.{HasReply, OrMemory}
-use Rattle.pddl_parser.proofs.Fronts.{and_then-cases, same_got}
-use Rattle.pddl_parser.proofs.Items.{Parses}
+use Rattle.pddl_forms.proofs.Fronts.{and_then-cases, same_got}
+use Rattle.pddl_forms.proofs.ItemSteps.{Parses}
 
 -- a value that is read to the end leaves nothing
 ended-got : {A : Type 0} (value text : A) (mid rest : List Lexeme) → ended value mid ≡ got text rest → (value ≡ text) × (mid ≡ [])

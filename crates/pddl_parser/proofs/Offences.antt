@@ -1,14 +1,14 @@
 -- Where a reader of a whole text stops, the offending token of its grammar stands, and the kind is that of the table.
 use Rattle.std.proofs.Common.{◌≡◌, ℕ, Bool, true, false, List, [], ◌∷◌, ◌++◌, refl, sym, ap, ◌∙◌, subst, append_assoc}
 use Rattle.std.proofs.lemmas.List.{append-nil}
-use Rattle.pddl_parser.specs.declared.stop.Why.{Why}
-use Rattle.pddl_parser.specs.declared.stop.Why.TheVariants.{Shape}
-use Rattle.pddl_parser.specs.Lexemes.{Lexeme}
-use Rattle.pddl_parser.specs.Reading.{Read, got, stuck, and_then}
-use Rattle.pddl_parser.specs.Offending.{Begins, IsUnsupported, other_section, other_requirement, other_part, reserved_head, either_type, IsKind, Offends}
-use Rattle.pddl_parser.specs.Choosing.{ended, all_of}
-use Rattle.pddl_parser.proofs.Items.{Parses}
-use Rattle.pddl_parser.proofs.Readers.{Reader, Completes, Passes, Passes-read, Refuses, Outcome, passes, refuses, IsReader, IsUnsupported-same, IsKind-same}
+use Rattle.pddl_forms.specs.declared.stop.Why.{Why}
+use Rattle.pddl_forms.specs.declared.stop.Why.TheVariants.{Shape}
+use Rattle.pddl_forms.specs.Lexemes.{Lexeme}
+use Rattle.pddl_forms.specs.Inner.Reading.{Read, got, stuck, and_then}
+use Rattle.pddl_forms.specs.Offending.{Begins, IsUnsupported, other_section, other_requirement, other_part, reserved_head, either_type, IsKind, Offends}
+use Rattle.pddl_parser.specs.Inner.Choosing.{ended, all_of}
+use Rattle.pddl_forms.proofs.ItemSteps.{Parses}
+use Rattle.pddl_forms.proofs.Readers.{Reader, Completes, Passes, Passes-read, Refuses, Outcome, passes, refuses, IsReader, IsUnsupported-same, IsKind-same}
 
 same_stuck : {A : Type 0} {why other : Why} {bad rest : List Lexeme} → ◌≡◌ {A = Read A} (stuck why bad) (stuck other rest) → (why ≡ other) × (bad ≡ rest)
 same_stuck e = (cc, cc)

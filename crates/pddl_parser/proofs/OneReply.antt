@@ -5,17 +5,17 @@ use Rattle.pddl_lexer.specs.declared.parentheses.Misplaced.{Misplaced}
 use Rattle.pddl_lexer.specs.declared.parentheses.Misplaced.TheVariants as parentheses
 use Rattle.pddl_lexer.specs.Lexing.{tokens_of}
 use Rattle.pddl_lexer.specs.Parentheses.{misplaced_in}
-use Rattle.pddl_parser.specs.declared.stop.Why.{Why}
-use Rattle.pddl_parser.specs.declared.stop.Why.TheVariants as kinds
+use Rattle.pddl_forms.specs.declared.stop.Why.{Why}
+use Rattle.pddl_forms.specs.declared.stop.Why.TheVariants as kinds
 use Rattle.pddl_parser.specs.declared.refusal.ParseRefusal.{ParseRefusal}
 use Rattle.pddl_parser.specs.declared.refusal.ParseRefusal.TheVariants.{Byte, Unclosed, Unopened, TooDeep, Shape, Unsupported, OutOfMemory}
-use Rattle.pddl_parser.specs.Lexemes.{Lexeme, lexemes, place_of}
-use Rattle.pddl_parser.specs.Offending.{Begins, IsUnsupported, IsKind, Offends}
-use Rattle.pddl_parser.specs.Reading.{Read}
-use Rattle.pddl_parser.specs.Answering.{refusal_of_misplaced, refusal_of_why, unless_misplaced, ordered, ordered_tokens_of}
+use Rattle.pddl_forms.specs.Lexemes.{Lexeme, lexemes, place_of}
+use Rattle.pddl_forms.specs.Offending.{Begins, IsUnsupported, IsKind, Offends}
+use Rattle.pddl_forms.specs.Inner.Reading.{Read}
+use Rattle.pddl_parser.specs.Inner.Answering.{refusal_of_misplaced, refusal_of_why, unless_misplaced, ordered, ordered_tokens_of}
 use Rattle.pddl_parser.specs.Replies.{HasMisplaced, HasOffence, HasReply}
-use Rattle.pddl_parser.proofs.Fronts.{same_got}
-use Rattle.pddl_parser.proofs.Items.{Parses}
+use Rattle.pddl_forms.proofs.Fronts.{same_got}
+use Rattle.pddl_forms.proofs.ItemSteps.{Parses}
 
 -- two readings of the same lexemes give the same
 pub one_text_read : {A : Type 0} (Text : List Lexeme → A → List Lexeme → Type 0) (read : List Lexeme → Read A) → Parses Text read → (ts : List Lexeme) (x y : A) → Text ts x [] → Text ts y [] → x ≡ y

@@ -2,20 +2,22 @@
 use Rattle.std.proofs.Common.{◌≡◌, Bool, true, false, cond, inl, inr, List, [], ◌∷◌, ◌++◌, Some, codes, refl, ap, ◌∙◌}
 use Rattle.std.proofs.lemmas.List.{append_assoc}
 use Rattle.pddl_lexer.specs.declared.lexer.Kind.TheVariants.{Name}
-use Rattle.pddl_parser.specs.declared.formulas.Terms.TheVariants.{Names}
-use Rattle.pddl_parser.specs.Lexemes.{Lexeme, left, right, name, keyword}
-use Rattle.pddl_parser.specs.Reading.{got, and_then, any_word, atom, atom_body, start, conjuncts, conjunction, opening}
-use Rattle.pddl_parser.specs.Grammar.{requirement_keywords}
-use Rattle.pddl_parser.specs.Offending.{problem_keywords, part_keywords}
-use Rattle.pddl_parser.specs.Grammar.{word, ProblemSections, no_problem_sections}
-use Rattle.pddl_parser.specs.Choosing.{choice_of}
-use Rattle.pddl_parser.specs.SectionReading.{is_none, problem_choices, section_of, stand_needed, problem_sections, problem_of, problem}
-use Rattle.pddl_parser.proofs.Readers.{Starts, IsReader, pure-reader, seq-reader}
-use Rattle.pddl_parser.proofs.Branches.{branch-reader, many-reader}
-use Rattle.pddl_parser.proofs.OneLexeme.{name-branch}
-use Rattle.pddl_parser.proofs.Exact.{atom_shrinks}
-use Rattle.pddl_parser.proofs.ConjunctionReaders.{closed-reader, atom-branch, formula-reader}
-use Rattle.pddl_parser.proofs.TypedReaders.{typed_list-reader}
+use Rattle.pddl_forms.specs.declared.formulas.Terms.TheVariants.{Names}
+use Rattle.pddl_forms.specs.Lexemes.{Lexeme, left, right, name, keyword}
+use Rattle.pddl_forms.specs.Inner.Reading.{got, and_then, any_word, atom, atom_body, start, conjuncts, conjunction}
+use Rattle.pddl_parser.specs.Inner.SectionReading.{opening}
+use Rattle.pddl_forms.specs.Offending.{requirement_keywords}
+use Rattle.pddl_forms.specs.Offending.{problem_keywords, part_keywords}
+use Rattle.pddl_forms.specs.Forms.{word}
+use Rattle.pddl_parser.specs.Grammar.{ProblemSections, no_problem_sections}
+use Rattle.pddl_parser.specs.Inner.Choosing.{choice_of}
+use Rattle.pddl_parser.specs.Inner.SectionReading.{is_none, problem_choices, section_of, stand_needed, problem_sections, problem_of, problem}
+use Rattle.pddl_forms.proofs.Readers.{Starts, IsReader, pure-reader, seq-reader}
+use Rattle.pddl_forms.proofs.Branches.{branch-reader, many-reader}
+use Rattle.pddl_forms.proofs.OneLexeme.{name-branch}
+use Rattle.pddl_forms.proofs.Exact.{atom_shrinks}
+use Rattle.pddl_forms.proofs.ConjunctionReaders.{closed-reader, atom-branch, formula-reader}
+use Rattle.pddl_forms.proofs.TypedReaders.{typed_list-reader}
 use Rattle.pddl_parser.proofs.Choices.{apart, IsPlace, AreChoices}
 use Rattle.pddl_parser.proofs.Turns.{Step, turn-is, turns-reader}
 use Rattle.pddl_parser.proofs.SectionReaders.{are-choices, section-step, put-reader, requirements-reader, opening-reader}

@@ -1,24 +1,26 @@
 -- Whole problems are read as the grammar says.
 use Rattle.std.proofs.Common.{◌≡◌, ℕ, true, not, ◌&&◌, inl, inr, List, [], ◌∷◌, Option, Some, None, unwrap_or, codes, refl, sym, ap, ◌∙◌, subst}
 use Rattle.pddl_lexer.specs.declared.lexer.Kind.TheVariants.{Name}
-use Rattle.pddl_parser.specs.declared.stop.Why.{Why}
-use Rattle.pddl_parser.specs.declared.texts.Word.{Word}
-use Rattle.pddl_parser.specs.declared.texts.AtomText.{AtomText}
+use Rattle.pddl_forms.specs.declared.stop.Why.{Why}
+use Rattle.pddl_forms.specs.declared.texts.Word.{Word}
+use Rattle.pddl_forms.specs.declared.texts.AtomText.{AtomText}
 use Rattle.pddl_parser.specs.declared.texts.ProblemText.{ProblemText}
-use Rattle.pddl_parser.specs.declared.formulas.Terms.TheVariants.{Names}
-use Rattle.pddl_parser.specs.Lexemes.{Lexeme, left, right, keyword}
+use Rattle.pddl_forms.specs.declared.formulas.Terms.TheVariants.{Names}
+use Rattle.pddl_forms.specs.Lexemes.{Lexeme, left, right, keyword}
 use Rattle.pddl_parser.specs.Grammar
-use Rattle.pddl_parser.specs.Grammar.{word, Many, Closed, Conjunction, IsNameWord, IsGroundAtom, is_section, ProblemSections, no_problem_sections, IsProblemSections, IsProblem, is_problem}
-use Rattle.pddl_parser.specs.Reading.{got, stuck, and_then, any_word, many, atom, atom_body, closed_item, conjunction}
-use Rattle.pddl_parser.specs.Offending.{problem_keywords, Offends}
-use Rattle.pddl_parser.specs.Choosing.{choice_of, all_of}
-use Rattle.pddl_parser.specs.SectionReading.{is_none, problem_choices, section_of, stand_needed, problem_sections, problem_of, problem}
-use Rattle.pddl_parser.proofs.Fronts.{and_then-cases, same_got}
-use Rattle.pddl_parser.proofs.Items.{Parses, parses_many}
-use Rattle.pddl_parser.proofs.Exact.{parses_name_word, atom_is_item, parses_atom, parses_opening, parses_closed}
-use Rattle.pddl_parser.proofs.ConjunctionRules.{parses_formula}
+use Rattle.pddl_forms.specs.Forms.{word, Many, Closed, Conjunction, IsNameWord, IsGroundAtom}
+use Rattle.pddl_parser.specs.Grammar.{is_section, ProblemSections, no_problem_sections, IsProblemSections, IsProblem, is_problem}
+use Rattle.pddl_forms.specs.Inner.Reading.{got, stuck, and_then, any_word, many, atom, atom_body, closed_item, conjunction}
+use Rattle.pddl_forms.specs.Offending.{problem_keywords, Offends}
+use Rattle.pddl_parser.specs.Inner.Choosing.{choice_of, all_of}
+use Rattle.pddl_parser.specs.Inner.SectionReading.{is_none, problem_choices, section_of, stand_needed, problem_sections, problem_of, problem}
+use Rattle.pddl_forms.proofs.Fronts.{and_then-cases, same_got}
+use Rattle.pddl_forms.proofs.ItemSteps.{Parses, parses_many}
+use Rattle.pddl_forms.proofs.Exact.{parses_name_word, atom_is_item, parses_atom, parses_closed}
+use Rattle.pddl_parser.proofs.Openings.{parses_opening}
+use Rattle.pddl_forms.proofs.ConjunctionRules.{parses_formula}
 use Rattle.pddl_parser.proofs.Offences.{whole-offends}
-use Rattle.pddl_parser.proofs.TypedRules.{parses_names}
+use Rattle.pddl_forms.proofs.TypedRules.{parses_names}
 use Rattle.pddl_parser.proofs.Turns.{turn-is, turns-sound}
 use Rattle.pddl_parser.proofs.SectionRules.{IsChoice, none_is}
 use Rattle.pddl_parser.proofs.Sections.{parses_requirements, section_at, carried_on, section-sound, one_section}

@@ -1,12 +1,12 @@
 -- Loops that read items of a state in turns: a turn, the end, and a turn that cannot be read.
 use Rattle.std.proofs.Common.{◌≡◌, Bool, true, false, cond, ◌&&◌, List, drop, Err, sym, ap, ◌∙◌}
 use Rattle.pddl_lexer.specs.declared.lexer.Kind.TheVariants.{RightParen}
-use Rattle.pddl_parser.specs.declared.stop.Why.{Why}
-use Rattle.pddl_parser.specs.declared.stop.Stop.{Stop}
-use Rattle.pddl_parser.specs.declared.stop.Stop.TheVariants.{Refused, OutOfMemory}
-use Rattle.pddl_parser.specs.Lexemes.{Lexeme}
-use Rattle.pddl_parser.specs.Reading.{Read, Reads, got, stuck, and_then, comes}
-use Rattle.pddl_parser.specs.Choosing.{turns}
+use Rattle.pddl_forms.specs.declared.stop.Why.{Why}
+use Rattle.pddl_forms.specs.declared.stop.Stop.{Stop}
+use Rattle.pddl_forms.specs.declared.stop.Stop.TheVariants.{Refused, OutOfMemory}
+use Rattle.pddl_forms.specs.Lexemes.{Lexeme}
+use Rattle.pddl_forms.specs.Inner.Reading.{Read, Reads, got, stuck, and_then, comes}
+use Rattle.pddl_parser.specs.Inner.Choosing.{turns}
 
 -- a test beside one that always holds
 pub beside_true : (a b : Bool) → a ≡ b → (a && true) ≡ b

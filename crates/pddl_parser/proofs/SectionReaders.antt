@@ -2,22 +2,24 @@
 use Rattle.std.proofs.Common.{◌≡◌, ℕ, Bool, true, false, cond, ◌||◌, ◌&&◌, inl, inr, bytes_eq, List, [], ◌∷◌, codes, refl}
 use Rattle.std.specs.List.{list_any}
 use Rattle.pddl_lexer.specs.declared.lexer.Kind.TheVariants.{LeftParen, RightParen, Name, Variable, Keyword}
-use Rattle.pddl_parser.specs.declared.stop.Why.TheVariants.{Shape}
-use Rattle.pddl_parser.specs.declared.formulas.Terms.TheVariants.{NamesAndVariables}
-use Rattle.pddl_parser.specs.Lexemes.{Lexeme}
-use Rattle.pddl_parser.specs.Reading.{stuck, is_of, word_of, mark, literal, any_word, head, many, in_list, opening}
-use Rattle.pddl_parser.specs.Grammar.{is_one_of, requirement_keywords}
-use Rattle.pddl_parser.specs.Offending.{domain_keywords, part_keywords}
+use Rattle.pddl_forms.specs.declared.stop.Why.TheVariants.{Shape}
+use Rattle.pddl_forms.specs.declared.formulas.Terms.TheVariants.{NamesAndVariables}
+use Rattle.pddl_forms.specs.Lexemes.{Lexeme}
+use Rattle.pddl_forms.specs.Inner.Reading.{stuck, is_of, word_of, mark, literal, any_word, head, many, in_list}
+use Rattle.pddl_parser.specs.Inner.SectionReading.{opening}
+use Rattle.pddl_forms.specs.Forms.{is_one_of}
+use Rattle.pddl_forms.specs.Offending.{requirement_keywords}
+use Rattle.pddl_forms.specs.Offending.{domain_keywords, part_keywords}
 use Rattle.pddl_parser.specs.Grammar.{ActionParts, no_parts, action_of, DomainSections, no_domain_sections, domain_of}
-use Rattle.pddl_parser.specs.TypedReading.{typed_list}
-use Rattle.pddl_parser.specs.Choosing.{is_keyword, why_no_keyword, requirement, Choice, any_may, takes_key, after_key, choice_of}
-use Rattle.pddl_parser.specs.SectionReading.{predicate, put, part_choices, parts, action, domain_choices, section_of, domain_sections, domain}
-use Rattle.pddl_parser.proofs.Items.{Shrinks}
-use Rattle.pddl_parser.proofs.Readers.{Reader, IsReader, pure-reader, seq-reader}
-use Rattle.pddl_parser.proofs.Branches.{Branch, branch-reader, branch-then, many-reader}
-use Rattle.pddl_parser.proofs.OneLexeme.{nameless-conforms, left-branch, right-branch, name-branch, head-branch, literal-branch}
-use Rattle.pddl_parser.proofs.ConjunctionReaders.{in_list-branch, formula-reader, effect-reader}
-use Rattle.pddl_parser.proofs.TypedReaders.{typed_list-reader}
+use Rattle.pddl_forms.specs.Inner.TypedReading.{typed_list}
+use Rattle.pddl_parser.specs.Inner.Choosing.{is_keyword, why_no_keyword, requirement, Choice, any_may, takes_key, after_key, choice_of}
+use Rattle.pddl_parser.specs.Inner.SectionReading.{predicate, put, part_choices, parts, action, domain_choices, section_of, domain_sections, domain}
+use Rattle.pddl_forms.proofs.ItemSteps.{Shrinks}
+use Rattle.pddl_forms.proofs.Readers.{Reader, IsReader, pure-reader, seq-reader}
+use Rattle.pddl_forms.proofs.Branches.{Branch, branch-reader, branch-then, many-reader}
+use Rattle.pddl_forms.proofs.OneLexeme.{nameless-conforms, left-branch, right-branch, name-branch, head-branch, literal-branch}
+use Rattle.pddl_forms.proofs.ConjunctionReaders.{in_list-branch, formula-reader, effect-reader}
+use Rattle.pddl_forms.proofs.TypedReaders.{typed_list-reader}
 use Rattle.pddl_parser.proofs.Choices.{keyword_found, apart, IsPlace, AreChoices, requirement-branch, choice-refused, choice-followed, choice-conforms, choice-branch}
 use Rattle.pddl_parser.proofs.Turns.{Step, branch-step, step-shrinks, turns-reader, always-ends}
 

@@ -1,14 +1,14 @@
 -- The loops over the parts of an action and over the sections of a domain and of a problem.
 use Rattle.std.proofs.Common.{◌≡◌, Bool, true, false, ◌||◌, ◌&&◌, List, drop, Err, refl}
 use Rattle.pddl_lexer.specs.declared.lexer.Kind.TheVariants.{RightParen}
-use Rattle.pddl_parser.specs.declared.stop.Stop.{Stop}
-use Rattle.pddl_parser.specs.Lexemes.{Lexeme}
+use Rattle.pddl_forms.specs.declared.stop.Stop.{Stop}
+use Rattle.pddl_forms.specs.Lexemes.{Lexeme}
 use Rattle.pddl_parser.specs.Grammar.{ActionParts, DomainSections, ProblemSections}
-use Rattle.pddl_parser.specs.Offending.{domain_keywords, problem_keywords, part_keywords}
-use Rattle.pddl_parser.specs.Reading.{Read, Reads, got, comes}
-use Rattle.pddl_parser.specs.Choosing.{any_may, choice_of}
-use Rattle.pddl_parser.specs.SectionReading.{is_none, part_choices, parts, domain_choices, section_of, domain_sections, problem_choices, stand_needed, problem_sections}
-use Rattle.pddl_parser.proofs.Items.{Shrinks}
+use Rattle.pddl_forms.specs.Offending.{domain_keywords, problem_keywords, part_keywords}
+use Rattle.pddl_forms.specs.Inner.Reading.{Read, Reads, got, comes}
+use Rattle.pddl_parser.specs.Inner.Choosing.{any_may, choice_of}
+use Rattle.pddl_parser.specs.Inner.SectionReading.{is_none, part_choices, parts, domain_choices, section_of, domain_sections, problem_choices, stand_needed, problem_sections}
+use Rattle.pddl_forms.proofs.ItemSteps.{Shrinks}
 use Rattle.pddl_parser.proofs.Turns.{turn-is, step-shrinks}
 use Rattle.pddl_parser.proofs.SectionReaders.{parts-step, sections-step}
 use Rattle.pddl_parser.proofs.ProblemReaders.{problem-step}

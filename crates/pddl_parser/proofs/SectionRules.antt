@@ -2,22 +2,25 @@
 use Rattle.std.proofs.Common.{◌≡◌, ℕ, Bool, true, false, cond, ◌&&◌, ◌⊎◌, inl, inr, List, [], ◌∷◌, Option, Some, None, codes, refl, sym, ap, ◌∙◌, subst}
 use Rattle.pddl_lexer.specs.declared.lexer.Kind.TheVariants.{RightParen, Variable}
 use Rattle.pddl_parser.specs.declared.texts.ActionText.{ActionText}
-use Rattle.pddl_parser.specs.declared.formulas.Terms.TheVariants.{NamesAndVariables}
-use Rattle.pddl_parser.specs.Lexemes.{Lexeme, left, right, keyword}
-use Rattle.pddl_parser.specs.Grammar.{word, Many, IsHead, Conjunction, IsLiftedAtom, IsChange, IsPart, is_part, IsSection, is_section, IsNameWord}
-use Rattle.pddl_parser.specs.Reading.{Read, got, stuck, and_then, comes, in_list}
-use Rattle.pddl_parser.specs.Grammar.{is_one_of, requirement_keywords}
-use Rattle.pddl_parser.specs.Offending.{domain_keywords, part_keywords}
+use Rattle.pddl_forms.specs.declared.formulas.Terms.TheVariants.{NamesAndVariables}
+use Rattle.pddl_forms.specs.Lexemes.{Lexeme, left, right, keyword}
+use Rattle.pddl_forms.specs.Forms.{word, Many, IsHead, Conjunction, IsLiftedAtom, IsChange, IsNameWord}
+use Rattle.pddl_parser.specs.Grammar.{IsPart, is_part, IsSection, is_section}
+use Rattle.pddl_forms.specs.Inner.Reading.{Read, got, stuck, and_then, comes, in_list}
+use Rattle.pddl_forms.specs.Forms.{is_one_of}
+use Rattle.pddl_forms.specs.Offending.{requirement_keywords}
+use Rattle.pddl_forms.specs.Offending.{domain_keywords, part_keywords}
 use Rattle.pddl_parser.specs.Grammar
-use Rattle.pddl_parser.specs.Grammar.{IsVariables, Opened, opened, IsPredicate, is_predicate, ActionParts, no_parts, IsParts, action_of, IsAction, is_action}
-use Rattle.pddl_parser.specs.TypedReading.{typed_list}
-use Rattle.pddl_parser.specs.Choosing.{is_keyword, why_no_keyword, Choice, any_may, takes_key, after_key, choice_of}
-use Rattle.pddl_parser.specs.SectionReading.{is_none, part_choices, parts, action}
-use Rattle.pddl_parser.proofs.Fronts.{and_then-cases, same_got, mark-left}
-use Rattle.pddl_parser.proofs.Items.{Parses}
-use Rattle.pddl_parser.proofs.Exact.{parses_name_word}
-use Rattle.pddl_parser.proofs.ConjunctionRules.{parses_formula, parses_effect}
-use Rattle.pddl_parser.proofs.TypedRules.{parses_variables}
+use Rattle.pddl_forms.specs.Forms.{IsVariables}
+use Rattle.pddl_parser.specs.Grammar.{Opened, opened, IsPredicate, is_predicate, ActionParts, no_parts, IsParts, action_of, IsAction, is_action}
+use Rattle.pddl_forms.specs.Inner.TypedReading.{typed_list}
+use Rattle.pddl_parser.specs.Inner.Choosing.{is_keyword, why_no_keyword, Choice, any_may, takes_key, after_key, choice_of}
+use Rattle.pddl_parser.specs.Inner.SectionReading.{is_none, part_choices, parts, action}
+use Rattle.pddl_forms.proofs.Fronts.{and_then-cases, same_got, mark-left}
+use Rattle.pddl_forms.proofs.ItemSteps.{Parses}
+use Rattle.pddl_forms.proofs.Exact.{parses_name_word}
+use Rattle.pddl_forms.proofs.ConjunctionRules.{parses_formula, parses_effect}
+use Rattle.pddl_forms.proofs.TypedRules.{parses_variables}
 use Rattle.pddl_parser.proofs.Choices.{keyword_found}
 use Rattle.pddl_parser.proofs.Turns.{turn-is, turn-got, turns-sound}
 use Rattle.pddl_parser.proofs.SectionReaders.{parts-step}

@@ -1,16 +1,18 @@
 -- Sections, of a domain and of a problem, are read as the grammar says, and so are the words of `:requirements`.
 use Rattle.std.proofs.Common.{◌≡◌, ℕ, ◌<◌, Bool, true, false, cond, ◌||◌, inl, inr, List, [], ◌∷◌, length, refl, ap, ◌∙◌, arith}
 use Rattle.pddl_lexer.specs.declared.lexer.Kind.TheVariants.{RightParen}
-use Rattle.pddl_parser.specs.declared.stop.Why.{Why}
-use Rattle.pddl_parser.specs.declared.stop.Why.TheVariants.{Shape}
-use Rattle.pddl_parser.specs.declared.texts.Word.{Word}
-use Rattle.pddl_parser.specs.Lexemes.{Lexeme, left, keyword}
-use Rattle.pddl_parser.specs.Grammar.{is_one_of, requirement_keywords, word, Many, IsRequirement, is_requirement, IsSection, is_section}
-use Rattle.pddl_parser.specs.Reading.{got, stuck, and_then, comes, many, in_list}
-use Rattle.pddl_parser.specs.Choosing.{why_no_keyword, requirement, Choice, any_may, choice_of, turns}
-use Rattle.pddl_parser.specs.SectionReading.{section_of}
-use Rattle.pddl_parser.proofs.Fronts.{and_then-cases, same_got, mark-left}
-use Rattle.pddl_parser.proofs.Items.{Parses, IsItem, parses_many}
+use Rattle.pddl_forms.specs.declared.stop.Why.{Why}
+use Rattle.pddl_forms.specs.declared.stop.Why.TheVariants.{Shape}
+use Rattle.pddl_forms.specs.declared.texts.Word.{Word}
+use Rattle.pddl_forms.specs.Lexemes.{Lexeme, left, keyword}
+use Rattle.pddl_forms.specs.Forms.{is_one_of, word, Many}
+use Rattle.pddl_forms.specs.Offending.{requirement_keywords}
+use Rattle.pddl_parser.specs.Grammar.{IsRequirement, is_requirement, IsSection, is_section}
+use Rattle.pddl_forms.specs.Inner.Reading.{got, stuck, and_then, comes, many, in_list}
+use Rattle.pddl_parser.specs.Inner.Choosing.{why_no_keyword, requirement, Choice, any_may, choice_of, turns}
+use Rattle.pddl_parser.specs.Inner.SectionReading.{section_of}
+use Rattle.pddl_forms.proofs.Fronts.{and_then-cases, same_got, mark-left}
+use Rattle.pddl_forms.proofs.ItemSteps.{Parses, IsItem, parses_many}
 use Rattle.pddl_parser.proofs.Turns.{Step, turn-got}
 use Rattle.pddl_parser.proofs.SectionRules.{IsChoice, choice-sound}
 

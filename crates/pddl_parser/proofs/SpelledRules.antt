@@ -3,16 +3,19 @@ use Rattle.std.proofs.Common.{◌≡◌, ℕ, Bool, true, false, ◌||◌, codes
 use Rattle.std.proofs.lemmas.Slice.Eq.{bytes_eq-Decides}
 use Rattle.std.proofs.lemmas.List.Elements.{All-nil, All-cons, All-head, All-tail, All-append, All-push, All-map, All-weaker}
 use Rattle.flag_rules.specs.Name.{IsName}
-use Rattle.pddl_parser.specs.declared.texts.Word.{Word}
+use Rattle.pddl_forms.specs.declared.texts.Word.{Word}
 use Rattle.pddl_parser.specs.declared.texts.DomainText.{DomainText}
 use Rattle.pddl_parser.specs.declared.texts.ProblemText.{ProblemText}
-use Rattle.pddl_parser.specs.declared.formulas.AtomChange.{AtomChange}
-use Rattle.pddl_parser.specs.declared.formulas.AtomChange.TheVariants.{Added, Deleted}
-use Rattle.pddl_parser.specs.Lexemes.{Lexeme, left, right, name, dash, gap}
+use Rattle.pddl_forms.specs.declared.texts.AtomChange.{AtomChange}
+use Rattle.pddl_forms.specs.declared.texts.AtomChange.TheVariants.{Added, Deleted}
+use Rattle.pddl_forms.specs.Lexemes.{Lexeme, left, right, name, dash, gap}
 use Rattle.pddl_parser.specs.Grammar
-use Rattle.pddl_parser.specs.Grammar.{word, typed, or_empty, IsNameWord, is_name_word, IsHead, is_head, IsTerm, is_constant, is_argument, IsVariableWord, is_variable_word, IsRequirement, is_requirement}
-use Rattle.pddl_parser.specs.Grammar.{Many, close, more, Closed, closed, Opened, opened, IsSection, is_section, IsPart, is_part, IsOpening, is_opening, Group, last, with_next, TypedList, untyped_words, typed_group, open_group}
-use Rattle.pddl_parser.specs.Grammar.{IsAtom, is_atom, IsGroundAtom, IsLiftedAtom, Conjunction, nothing, all_of, just, Conjuncts, finished, also, IsChange, is_added, is_deleted, added, deleted, IsNames, IsVariables, IsPredicate, is_predicate}
+use Rattle.pddl_forms.specs.Forms.{word, typed, IsNameWord, is_name_word, IsHead, is_head, IsTerm, is_constant, is_argument, IsVariableWord, is_variable_word}
+use Rattle.pddl_parser.specs.Grammar.{or_empty, IsRequirement, is_requirement}
+use Rattle.pddl_forms.specs.Forms.{Many, close, more, Closed, closed, Group, last, with_next, TypedList, untyped_words, typed_group, open_group}
+use Rattle.pddl_parser.specs.Grammar.{Opened, opened, IsSection, is_section, IsPart, is_part, IsOpening, is_opening}
+use Rattle.pddl_forms.specs.Forms.{IsAtom, is_atom, IsGroundAtom, IsLiftedAtom, Conjunction, nothing, all_of, just, Conjuncts, finished, also, IsChange, is_added, is_deleted, added, deleted, IsNames, IsVariables}
+use Rattle.pddl_parser.specs.Grammar.{IsPredicate, is_predicate}
 use Rattle.pddl_parser.specs.Grammar.{ActionParts, no_parts, IsParts, IsAction, is_action, DomainSections, no_domain_sections, IsDomainSections, IsDomain, is_domain, ProblemSections, no_problem_sections, IsProblemSections, IsProblem, is_problem}
 use Rattle.pddl_parser.specs.Spelled.{IsVariable, IsTermText, IsRequirementText, IsTypedSpelled, IsHeadText, IsPredicateSpelled, IsAtomSpelled, IsActionSpelled, IsDomainSpelled, IsProblemSpelled}
 use Rattle.pddl_parser.proofs.Spelling.{AreSpelled}

@@ -11,7 +11,7 @@ use Rattle.pddl_lexer.specs.declared.lexer.Token.{Token}
 use Rattle.pddl_lexer.specs.declared.lexer.Piece.{Piece}
 use Rattle.pddl_lexer.specs.declared.lexer.Piece.TheVariants.{Spelled}
 use Rattle.pddl_lexer.specs.Lexing.{is_blank, starts_name, name_len, piece_of, tokens_of}
-use Rattle.pddl_parser.specs.Lexemes.{Lexeme, name, variable, gap, lower, lexeme, see, lexemes}
+use Rattle.pddl_forms.specs.Lexemes.{Lexeme, name, variable, gap, lower, lexeme, see, lexemes}
 use Rattle.pddl_parser.specs.Spelled.{IsVariable}
 use Rattle.pddl_lexer.proofs.Pieces.{IsPiece, AreCut, tokens_are_cut}
 

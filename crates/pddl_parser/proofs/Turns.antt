@@ -1,14 +1,14 @@
 -- Loops whose turns go by what stands already are exact on both sides.
 use Rattle.std.proofs.Common.{◌≡◌, ℕ, zero, suc, ◌<◌, Bool, true, false, cond, ◌||◌, ◌&&◌, List, [], ◌∷◌, ◌++◌, length, drop, refl, sym, ap, ◌∙◌, subst, arith}
 use Rattle.pddl_lexer.specs.declared.lexer.Kind.TheVariants.{RightParen}
-use Rattle.pddl_parser.specs.declared.stop.Why.{Why}
-use Rattle.pddl_parser.specs.declared.stop.Why.TheVariants.{Shape}
-use Rattle.pddl_parser.specs.Lexemes.{Lexeme, right}
-use Rattle.pddl_parser.specs.Reading.{Read, got, stuck, and_then, is_of, comes}
-use Rattle.pddl_parser.specs.Choosing.{turns_within, turns}
-use Rattle.pddl_parser.proofs.Fronts.{and_then-cases, same_got}
-use Rattle.pddl_parser.proofs.Readers.{Reader, Starts, Conforms, IsReader, Completes-then, pure-reader, pure-starts, reader-starts}
-use Rattle.pddl_parser.proofs.Branches.{Fork, Branch, Conforms-or, neither, Within, reader-within, within-reader, then-within, fork-within}
+use Rattle.pddl_forms.specs.declared.stop.Why.{Why}
+use Rattle.pddl_forms.specs.declared.stop.Why.TheVariants.{Shape}
+use Rattle.pddl_forms.specs.Lexemes.{Lexeme, right}
+use Rattle.pddl_forms.specs.Inner.Reading.{Read, got, stuck, and_then, is_of, comes}
+use Rattle.pddl_parser.specs.Inner.Choosing.{turns_within, turns}
+use Rattle.pddl_forms.proofs.Fronts.{and_then-cases, same_got}
+use Rattle.pddl_forms.proofs.Readers.{Reader, Starts, Conforms, IsReader, Completes-then, pure-reader, pure-starts, reader-starts}
+use Rattle.pddl_forms.proofs.Branches.{Fork, Branch, Conforms-or, neither, Within, reader-within, within-reader, then-within, fork-within}
 use Rattle.pddl_parser.proofs.Choices.{reader-stays}
 
 -- a reader that goes by the first lexeme, and may take none at all

@@ -1,12 +1,5 @@
-pub mod Lexemes
+pub mod Sections
 pub mod Grammar
-pub mod Offending
-pub mod Reading
-pub mod TypedReading
-pub mod Choosing
-pub mod SectionReading
-pub mod Spelled
 pub mod Replies
-pub mod Answering
-pub mod GroupReading
-pub mod Leaving
+pub mod Spelled
+pub mod Inner

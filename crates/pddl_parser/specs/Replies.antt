@@ -3,18 +3,18 @@ use Rattle.std.specs.Prelude.{◌≡◌, ℕ, ◌≤◌, List, [], length, Some,
 use Rattle.pddl_lexer.specs.declared.lexer.Token.{Token}
 use Rattle.pddl_lexer.specs.declared.parentheses.Misplaced.{Misplaced}
 use Rattle.pddl_lexer.specs.declared.parentheses.Misplaced.TheVariants as parentheses
-use Rattle.pddl_lexer.specs.declared.lexer.TheConstants.{LONGEST}
+use Rattle.flag_rules.specs.declared.file.TheConstants.{MAX_FILE_BYTES}
 use Rattle.pddl_lexer.specs.Lexing.{tokens_of}
 use Rattle.pddl_lexer.specs.Parentheses.{misplaced_in}
-use Rattle.pddl_parser.specs.declared.stop.Why.{Why}
-use Rattle.pddl_parser.specs.declared.stop.Why.TheVariants as kinds
+use Rattle.pddl_forms.specs.declared.stop.Why.{Why}
+use Rattle.pddl_forms.specs.declared.stop.Why.TheVariants as kinds
 use Rattle.pddl_parser.specs.declared.refusal.ParseRefusal.{ParseRefusal}
 use Rattle.pddl_parser.specs.declared.refusal.ParseRefusal.TheVariants.{Byte, Unclosed, Unopened, TooDeep, Shape, Unsupported, OutOfMemory}
 use Rattle.pddl_parser.specs.declared.texts.DomainText.{DomainText}
 use Rattle.pddl_parser.specs.declared.texts.ProblemText.{ProblemText}
-use Rattle.pddl_parser.specs.Lexemes.{Lexeme, lexemes, place_of}
+use Rattle.pddl_forms.specs.Lexemes.{Lexeme, lexemes, place_of}
 use Rattle.pddl_parser.specs.Grammar.{IsDomain, IsProblem}
-use Rattle.pddl_parser.specs.Offending.{Offends, domain_keywords, problem_keywords}
+use Rattle.pddl_forms.specs.Offending.{Offends, domain_keywords, problem_keywords}
 
 -- bytes that have tokens with every parenthesis in its place, which are those of a text of the grammar
 abbrev pub HasText : {A : Type 0} → (List Lexeme → A → List Lexeme → Type 0) → List ℕ → A → Type 0
@@ -78,8 +78,8 @@ IsProblemReply bytes = OrMemory (HasProblemReply bytes)
 
 -- a domain that is read of some bytes
 abbrev pub IsDomainText : DomainText → Type 0
-IsDomainText text = (bytes : List ℕ) × (length bytes ≤ LONGEST) × HasDomain bytes text
+IsDomainText text = (bytes : List ℕ) × (length bytes ≤ MAX_FILE_BYTES) × HasDomain bytes text
 
 -- a problem that is read of some bytes
 abbrev pub IsProblemText : ProblemText → Type 0
-IsProblemText text = (bytes : List ℕ) × (length bytes ≤ LONGEST) × HasProblem bytes text
+IsProblemText text = (bytes : List ℕ) × (length bytes ≤ MAX_FILE_BYTES) × HasProblem bytes text

@@ -1,28 +1,37 @@
 ghost use Rattle.std.specs.Prelude.{◌≡◌, IfOk};
 ghost use Rattle.std.specs.List.{list_any};
 ghost use Rattle.pddl_lexer.specs.declared.lexer.Kind.TheVariants.{Keyword};
-ghost use Rattle.pddl_parser.specs.Offending.{part_keywords};
+ghost use Rattle.pddl_forms.specs.Offending.{part_keywords};
 ghost use Rattle.pddl_parser.specs.Grammar.{no_parts, action_of};
-ghost use Rattle.pddl_parser.specs.Reading.{Reads, comes_as};
-ghost use Rattle.pddl_parser.specs.Choosing.{any_may, choice_of};
-ghost use Rattle.pddl_parser.specs.SectionReading.{parameters_choice, precondition_choice, effect_choice, part_choices, parts, action};
+ghost use Rattle.pddl_forms.specs.Inner.Reading.{Reads, comes_as};
+ghost use Rattle.pddl_parser.specs.Inner.Choosing.{any_may, choice_of};
+ghost use Rattle.pddl_parser.specs.Inner.SectionReading.{parameters_choice, precondition_choice, effect_choice, part_choices, parts, action};
 
-use crate::cursor::Cursor;
-use crate::formulas::{AtomChange, Terms, effect, formula, split_changes};
 use crate::keys::{is_due, or_empty, why_no_key};
-use crate::stop::Stop;
-use crate::texts::{ActionText, AtomText, Typed, Word};
-use crate::typed_lists::typed_list;
+use crate::texts::ActionText;
 use flag_rules::{List, OutOfMemory};
+use pddl_forms::{
+    AtomChange, AtomText, Cursor, Stop, Terms, Typed, Word, effect, formula, split_changes,
+    typed_list,
+};
 use pddl_lexer::Kind;
 use std::alloc::Global;
+use std::marker::Model;
 
 /// The parts of an action that stand already.
 #[derive(Debug, Drop)]
-pub struct ActionParts {
-    pub params: Option<List<Typed>>,
-    pub pre: Option<List<AtomText>>,
-    pub changes: Option<List<AtomChange>>,
+struct ActionParts {
+    params: Option<List<Typed>>,
+    pre: Option<List<AtomText>>,
+    changes: Option<List<AtomChange>>,
+}
+
+impl Model for ActionParts {
+    ghost use Rattle.pddl_parser.specs.Sections.{ActionParts as Parts};
+
+    ghost Value = { Parts };
+
+    ghost view = { λ parts. record { params = parts.params; pre = parts.pre; changes = parts.changes } };
 }
 
 impl ActionParts {
@@ -55,7 +64,7 @@ fn is_at_part(cursor: &Cursor<'_>) -> bool
 }
 
 /// `( vars )`
-#[tactic(auto, unfolding(crate::specs::Reading::and_then))]
+#[tactic(auto, unfolding(pddl_forms::specs::Inner::Reading::and_then))]
 fn parameters(
     alloc: Global,
     cursor: &mut Cursor<'_>,
@@ -69,7 +78,7 @@ fn parameters(
 }
 
 /// `formula`
-#[tactic(auto, unfolding(crate::specs::Reading::and_then))]
+#[tactic(auto, unfolding(pddl_forms::specs::Inner::Reading::and_then))]
 fn precondition(
     alloc: Global,
     cursor: &mut Cursor<'_>,
@@ -82,7 +91,7 @@ fn precondition(
 }
 
 /// `effect`
-#[tactic(auto, unfolding(crate::specs::Reading::and_then))]
+#[tactic(auto, unfolding(pddl_forms::specs::Inner::Reading::and_then))]
 fn effect_part(
     alloc: Global,
     cursor: &mut Cursor<'_>,
@@ -141,8 +150,8 @@ fn action_of(alloc: Global, name: Word, parts: ActionParts) -> Result<ActionText
 }
 
 /// `NAME part* )`
-#[tactic(auto, unfolding(crate::specs::Reading::and_then, crate::specs::SectionReading::action))]
-pub fn action(alloc: Global, cursor: &mut Cursor<'_>) -> Result<ActionText, Stop>
+#[tactic(auto, unfolding(pddl_forms::specs::Inner::Reading::and_then, crate::specs::Inner::SectionReading::action))]
+pub(crate) fn action(alloc: Global, cursor: &mut Cursor<'_>) -> Result<ActionText, Stop>
     ensures { Reads (action cursor.old) result cursor.new }
 {
     let name = cursor.any_word(alloc, Kind::Name)?;

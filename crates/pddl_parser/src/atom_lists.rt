@@ -1,14 +1,10 @@
-ghost use Rattle.pddl_parser.specs.Reading.{Reads, many, atom};
-ghost use Rattle.pddl_parser.specs.SectionReading.{predicate};
-ghost use Rattle.pddl_parser.specs.declared.formulas.Terms.TheVariants.{Names};
+ghost use Rattle.pddl_forms.specs.Inner.Reading.{Reads, many, atom};
+ghost use Rattle.pddl_parser.specs.Inner.SectionReading.{predicate};
+ghost use Rattle.pddl_forms.specs.declared.formulas.Terms.TheVariants.{Names};
 
-use crate::cursor::Cursor;
-use crate::formulas::{Terms, atom};
-use crate::item_lists::{ItemReader, items};
-use crate::stop::Stop;
-use crate::texts::{AtomText, PredText};
-use crate::typed_lists::typed_list;
+use crate::texts::PredText;
 use flag_rules::List;
+use pddl_forms::{AtomText, Cursor, ItemReader, Stop, Terms, atom, items, typed_list};
 use pddl_lexer::Kind;
 use std::alloc::Global;
 
@@ -21,7 +17,7 @@ impl ItemReader for Predicate {
 
     ghost reading = { λ _. predicate };
 
-    #[tactic(auto, unfolding(crate::specs::Reading::and_then, crate::specs::SectionReading::predicate))]
+    #[tactic(auto, unfolding(pddl_forms::specs::Inner::Reading::and_then, crate::specs::Inner::SectionReading::predicate))]
     fn read(&self, alloc: Global, cursor: &mut Cursor<'_>) -> Result<PredText, Stop> {
         cursor.mark(Kind::LeftParen)?;
         let head = cursor.head(alloc)?;
@@ -45,14 +41,14 @@ impl ItemReader for GroundAtom {
 }
 
 /// Predicates, up to the right parenthesis.
-pub fn predicates(alloc: Global, cursor: &mut Cursor<'_>) -> Result<List<PredText>, Stop>
+pub(crate) fn predicates(alloc: Global, cursor: &mut Cursor<'_>) -> Result<List<PredText>, Stop>
     ensures { Reads (many predicate cursor.old) result cursor.new }
 {
     items(alloc, cursor, &Predicate)
 }
 
 /// Atoms of names, up to the right parenthesis.
-pub fn ground_atoms(alloc: Global, cursor: &mut Cursor<'_>) -> Result<List<AtomText>, Stop>
+pub(crate) fn ground_atoms(alloc: Global, cursor: &mut Cursor<'_>) -> Result<List<AtomText>, Stop>
     ensures { Reads (many (atom Names) cursor.old) result cursor.new }
 {
     items(alloc, cursor, &GroundAtom)

@@ -1,33 +1,40 @@
 ghost use Rattle.std.specs.Prelude.{◌≡◌, [], ◌∷◌, ◌++◌};
 ghost use Rattle.std.specs.List.{list_any};
 ghost use Rattle.pddl_lexer.specs.declared.lexer.Kind.TheVariants.{Name, Keyword};
-ghost use Rattle.pddl_parser.specs.Offending.{domain_keywords};
+ghost use Rattle.pddl_forms.specs.Offending.{domain_keywords};
 ghost use Rattle.pddl_parser.specs.Grammar.{no_domain_sections, domain_of};
-ghost use Rattle.pddl_parser.specs.Reading.{Reads, comes_as, many};
-ghost use Rattle.pddl_parser.specs.TypedReading.{typed_list};
-ghost use Rattle.pddl_parser.specs.Choosing.{requirement, choice_of};
-ghost use Rattle.pddl_parser.specs.SectionReading.{predicate, action, put, domain_choices, section_of, domain_sections, domain};
+ghost use Rattle.pddl_forms.specs.Inner.Reading.{Reads, comes_as, many};
+ghost use Rattle.pddl_forms.specs.Inner.TypedReading.{typed_list};
+ghost use Rattle.pddl_parser.specs.Inner.Choosing.{requirement, choice_of};
+ghost use Rattle.pddl_parser.specs.Inner.SectionReading.{predicate, action, put, domain_choices, section_of, domain_sections, domain};
 
 use crate::actions::action;
 use crate::atom_lists::predicates;
-use crate::cursor::Cursor;
 use crate::keys::{is_due, or_empty, why_no_key};
 use crate::shared_parts::{opening, requirements};
-use crate::stop::Stop;
-use crate::texts::{ActionText, DomainText, PredText, Typed, Word};
-use crate::typed_lists::typed_list;
+use crate::texts::{ActionText, DomainText, PredText};
 use flag_rules::List;
+use pddl_forms::{Cursor, Stop, Typed, Word, typed_list};
 use pddl_lexer::Kind;
 use std::alloc::Global;
+use std::marker::Model;
 
 /// The sections of a domain that stand already.
 #[derive(Debug, Drop)]
-pub struct DomainSections {
-    pub requirements: Option<List<Word>>,
-    pub types: Option<List<Typed>>,
-    pub constants: Option<List<Typed>>,
-    pub predicates: Option<List<PredText>>,
-    pub actions: List<ActionText>,
+struct DomainSections {
+    requirements: Option<List<Word>>,
+    types: Option<List<Typed>>,
+    constants: Option<List<Typed>>,
+    predicates: Option<List<PredText>>,
+    actions: List<ActionText>,
+}
+
+impl Model for DomainSections {
+    ghost use Rattle.pddl_parser.specs.Sections.{DomainSections as Sections};
+
+    ghost Value = { Sections };
+
+    ghost view = { λ seen. record { requirements = seen.requirements; types = seen.types; constants = seen.constants; predicates = seen.predicates; actions = seen.actions } };
 }
 
 impl DomainSections {
@@ -57,7 +64,7 @@ fn is_at_section(cursor: &Cursor<'_>) -> bool
 }
 
 /// `REQ* )`
-#[tactic(auto, unfolding(crate::specs::Reading::and_then))]
+#[tactic(auto, unfolding(pddl_forms::specs::Inner::Reading::and_then))]
 fn requirements_section(
     alloc: Global,
     cursor: &mut Cursor<'_>,
@@ -73,7 +80,7 @@ fn requirements_section(
 }
 
 /// `names )`, the types.
-#[tactic(auto, unfolding(crate::specs::Reading::and_then))]
+#[tactic(auto, unfolding(pddl_forms::specs::Inner::Reading::and_then))]
 fn types_section(
     alloc: Global,
     cursor: &mut Cursor<'_>,
@@ -86,7 +93,7 @@ fn types_section(
 }
 
 /// `names )`, the constants.
-#[tactic(auto, unfolding(crate::specs::Reading::and_then))]
+#[tactic(auto, unfolding(pddl_forms::specs::Inner::Reading::and_then))]
 fn constants_section(
     alloc: Global,
     cursor: &mut Cursor<'_>,
@@ -99,7 +106,7 @@ fn constants_section(
 }
 
 /// `pred* )`
-#[tactic(auto, unfolding(crate::specs::Reading::and_then))]
+#[tactic(auto, unfolding(pddl_forms::specs::Inner::Reading::and_then))]
 fn predicates_section(
     alloc: Global,
     cursor: &mut Cursor<'_>,
@@ -112,7 +119,7 @@ fn predicates_section(
 }
 
 /// `NAME part* )`
-#[tactic(auto, unfolding(crate::specs::Reading::and_then))]
+#[tactic(auto, unfolding(pddl_forms::specs::Inner::Reading::and_then))]
 fn action_section(
     alloc: Global,
     cursor: &mut Cursor<'_>,
@@ -195,8 +202,8 @@ fn domain_of(alloc: Global, name: Word, sections: DomainSections) -> DomainText
 }
 
 /// The text of a domain, with what stands after it left.
-#[tactic(auto, unfolding(crate::specs::Reading::and_then, crate::specs::SectionReading::domain))]
-pub fn domain_text(alloc: Global, cursor: &mut Cursor<'_>) -> Result<DomainText, Stop>
+#[tactic(auto, unfolding(pddl_forms::specs::Inner::Reading::and_then, crate::specs::Inner::SectionReading::domain))]
+pub(crate) fn domain_text(alloc: Global, cursor: &mut Cursor<'_>) -> Result<DomainText, Stop>
     ensures { Reads (domain cursor.old) result cursor.new }
 {
     let name = opening(alloc, cursor, b"domain")?;

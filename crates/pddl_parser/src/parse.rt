@@ -1,20 +1,19 @@
 ghost use Rattle.std.specs.Prelude.{◌≡◌, ◌≤◌, List as Sequence, length, IfOk};
 ghost use Rattle.pddl_lexer.specs.Lexing.{InOrder};
-ghost use Rattle.pddl_parser.specs.Lexemes.{Lexeme};
-ghost use Rattle.pddl_parser.specs.Reading.{Read, Reads};
-ghost use Rattle.pddl_parser.specs.Choosing.{all_of};
-ghost use Rattle.pddl_parser.specs.SectionReading as reading;
-ghost use Rattle.pddl_parser.specs.Answering.{ordered_tokens_of, reply_by};
+ghost use Rattle.pddl_forms.specs.Lexemes.{Lexeme};
+ghost use Rattle.pddl_forms.specs.Inner.Reading.{Read, Reads};
+ghost use Rattle.pddl_parser.specs.Inner.Choosing.{all_of};
+ghost use Rattle.pddl_parser.specs.Inner.SectionReading as reading;
+ghost use Rattle.pddl_parser.specs.Inner.Answering.{ordered_tokens_of, reply_by};
 ghost use Rattle.pddl_parser.specs.Replies.{OrMemory, IsDomainReply, IsProblemReply};
 
-use crate::cursor::Cursor;
 use crate::domain_sections::domain_text;
 use crate::problem_sections::problem_text;
 use crate::refusal::ParseRefusal;
-use crate::stop::Stop;
 use crate::texts::{DomainText, ProblemText};
-use flag_rules::List;
-use pddl_lexer::{LONGEST, Token, misplaced_parenthesis, tokens};
+use flag_rules::{List, MAX_FILE_BYTES};
+use pddl_forms::{Cursor, Stop};
+use pddl_lexer::{Token, misplaced_parenthesis, tokens};
 use std::alloc::Global;
 
 /// A text that tokens have, up to their end.
@@ -44,7 +43,7 @@ impl WholeText for ProblemText {
 
 /// The tokens of bytes, where each parenthesis is in its place.
 fn ordered_tokens(alloc: Global, bytes: &[u8]) -> Result<List<Token>, ParseRefusal>
-    requires { length bytes.now ≤ LONGEST }
+    requires { length bytes.now ≤ MAX_FILE_BYTES }
     ensures exact { OrMemory (λ reply. reply ≡ ordered_tokens_of bytes.now) result }
     ensures spans { IfOk result (λ tokens. InOrder 0 (length bytes.now) tokens) }
 {
@@ -56,7 +55,7 @@ fn ordered_tokens(alloc: Global, bytes: &[u8]) -> Result<List<Token>, ParseRefus
 }
 
 /// Reads a text, and the end after it.
-#[tactic(auto, unfolding(crate::specs::Reading::and_then, crate::specs::Choosing::all_of))]
+#[tactic(auto, unfolding(pddl_forms::specs::Inner::Reading::and_then, crate::specs::Inner::Choosing::all_of))]
 fn read_to_end<T: WholeText>(alloc: Global, cursor: &mut Cursor<'_>) -> Result<T, Stop>
     ensures { Reads (all_of T.reading cursor.old) result cursor.new }
 {
@@ -67,7 +66,7 @@ fn read_to_end<T: WholeText>(alloc: Global, cursor: &mut Cursor<'_>) -> Result<T
 
 /// Reads the text of bytes, or tells their refusal.
 fn parse<T: WholeText>(alloc: Global, bytes: &[u8]) -> Result<T, ParseRefusal>
-    requires { length bytes.now ≤ LONGEST }
+    requires { length bytes.now ≤ MAX_FILE_BYTES }
     ensures { OrMemory (λ reply. reply ≡ reply_by T.reading bytes.now) result }
 {
     let tokens = ordered_tokens(alloc, bytes)?;
@@ -81,7 +80,7 @@ fn parse<T: WholeText>(alloc: Global, bytes: &[u8]) -> Result<T, ParseRefusal>
 /// Reads a domain of PDDL 1.2, `( define ( domain NAME ) section* )`, in letters of either case. Bytes
 /// that have no such text have one refusal.
 pub fn domain(alloc: Global, bytes: &[u8]) -> Result<DomainText, ParseRefusal>
-    requires { length bytes.now ≤ LONGEST }
+    requires { length bytes.now ≤ MAX_FILE_BYTES }
     ensures reply { IsDomainReply bytes.now result }
 {
     parse(alloc, bytes)
@@ -90,7 +89,7 @@ pub fn domain(alloc: Global, bytes: &[u8]) -> Result<DomainText, ParseRefusal>
 /// Reads a problem of PDDL 1.2, `( define ( problem NAME ) section* )`, in letters of either case.
 /// Bytes that have no such text have one refusal.
 pub fn problem(alloc: Global, bytes: &[u8]) -> Result<ProblemText, ParseRefusal>
-    requires { length bytes.now ≤ LONGEST }
+    requires { length bytes.now ≤ MAX_FILE_BYTES }
     ensures reply { IsProblemReply bytes.now result }
 {
     parse(alloc, bytes)

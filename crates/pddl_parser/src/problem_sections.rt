@@ -1,34 +1,40 @@
 ghost use Rattle.std.specs.Prelude.{◌≡◌, ◌&&◌};
 ghost use Rattle.std.specs.List.{list_any};
 ghost use Rattle.pddl_lexer.specs.declared.lexer.Kind.TheVariants.{RightParen, Name, Keyword};
-ghost use Rattle.pddl_parser.specs.declared.formulas.Terms.TheVariants.{Names};
-ghost use Rattle.pddl_parser.specs.Offending.{problem_keywords};
+ghost use Rattle.pddl_forms.specs.declared.formulas.Terms.TheVariants.{Names};
+ghost use Rattle.pddl_forms.specs.Offending.{problem_keywords};
 ghost use Rattle.pddl_parser.specs.Grammar.{no_problem_sections};
-ghost use Rattle.pddl_parser.specs.Reading.{Reads, comes, comes_as, any_word, many, atom, atom_body, closed_item, conjunction};
-ghost use Rattle.pddl_parser.specs.TypedReading.{typed_list};
-ghost use Rattle.pddl_parser.specs.Choosing.{requirement, any_may, choice_of};
-ghost use Rattle.pddl_parser.specs.SectionReading.{put, problem_choices, section_of, stand_needed, problem_sections, problem_of, problem};
+ghost use Rattle.pddl_forms.specs.Inner.Reading.{Reads, comes, comes_as, any_word, many, atom, atom_body, closed_item, conjunction};
+ghost use Rattle.pddl_forms.specs.Inner.TypedReading.{typed_list};
+ghost use Rattle.pddl_parser.specs.Inner.Choosing.{requirement, any_may, choice_of};
+ghost use Rattle.pddl_parser.specs.Inner.SectionReading.{put, problem_choices, section_of, stand_needed, problem_sections, problem_of, problem};
 
 use crate::atom_lists::ground_atoms;
-use crate::cursor::Cursor;
-use crate::formulas::{Terms, formula};
 use crate::keys::{is_due, or_empty, why_no_key};
 use crate::shared_parts::{opening, requirements};
-use crate::stop::{Stop, Why};
-use crate::texts::{AtomText, ProblemText, Typed, Word};
-use crate::typed_lists::typed_list;
+use crate::texts::ProblemText;
 use flag_rules::{List, Text};
+use pddl_forms::{AtomText, Cursor, Stop, Terms, Typed, Why, Word, formula, typed_list};
 use pddl_lexer::Kind;
 use std::alloc::Global;
+use std::marker::Model;
 
 /// The sections of a problem that stand already.
 #[derive(Debug, Drop)]
-pub struct ProblemSections {
-    pub domain: Option<Word>,
-    pub requirements: Option<List<Word>>,
-    pub objects: Option<List<Typed>>,
-    pub init: Option<List<AtomText>>,
-    pub goal: Option<List<AtomText>>,
+struct ProblemSections {
+    domain: Option<Word>,
+    requirements: Option<List<Word>>,
+    objects: Option<List<Typed>>,
+    init: Option<List<AtomText>>,
+    goal: Option<List<AtomText>>,
+}
+
+impl Model for ProblemSections {
+    ghost use Rattle.pddl_parser.specs.Sections.{ProblemSections as Sections};
+
+    ghost Value = { Sections };
+
+    ghost view = { λ seen. record { domain = seen.domain; requirements = seen.requirements; objects = seen.objects; init = seen.init; goal = seen.goal } };
 }
 
 impl ProblemSections {
@@ -76,7 +82,7 @@ fn is_at_section(cursor: &Cursor<'_>) -> bool
 }
 
 /// `NAME )`
-#[tactic(auto, unfolding(crate::specs::Reading::and_then))]
+#[tactic(auto, unfolding(pddl_forms::specs::Inner::Reading::and_then))]
 fn closed_name(alloc: Global, cursor: &mut Cursor<'_>) -> Result<Word, Stop>
     ensures { Reads (closed_item (any_word Name) cursor.old) result cursor.new }
 {
@@ -86,7 +92,7 @@ fn closed_name(alloc: Global, cursor: &mut Cursor<'_>) -> Result<Word, Stop>
 }
 
 /// `gformula )`
-#[tactic(auto, unfolding(crate::specs::Reading::and_then))]
+#[tactic(auto, unfolding(pddl_forms::specs::Inner::Reading::and_then))]
 fn closed_formula(alloc: Global, cursor: &mut Cursor<'_>) -> Result<List<AtomText>, Stop>
     ensures { Reads (closed_item (conjunction (atom_body Names)) cursor.old) result cursor.new }
 {
@@ -96,7 +102,7 @@ fn closed_formula(alloc: Global, cursor: &mut Cursor<'_>) -> Result<List<AtomTex
 }
 
 /// `NAME )`, the domain.
-#[tactic(auto, unfolding(crate::specs::Reading::and_then))]
+#[tactic(auto, unfolding(pddl_forms::specs::Inner::Reading::and_then))]
 fn domain_section(
     alloc: Global,
     cursor: &mut Cursor<'_>,
@@ -109,7 +115,7 @@ fn domain_section(
 }
 
 /// `REQ* )`
-#[tactic(auto, unfolding(crate::specs::Reading::and_then))]
+#[tactic(auto, unfolding(pddl_forms::specs::Inner::Reading::and_then))]
 fn requirements_section(
     alloc: Global,
     cursor: &mut Cursor<'_>,
@@ -125,7 +131,7 @@ fn requirements_section(
 }
 
 /// `names )`
-#[tactic(auto, unfolding(crate::specs::Reading::and_then))]
+#[tactic(auto, unfolding(pddl_forms::specs::Inner::Reading::and_then))]
 fn objects_section(
     alloc: Global,
     cursor: &mut Cursor<'_>,
@@ -138,7 +144,7 @@ fn objects_section(
 }
 
 /// `gatom* )`
-#[tactic(auto, unfolding(crate::specs::Reading::and_then))]
+#[tactic(auto, unfolding(pddl_forms::specs::Inner::Reading::and_then))]
 fn init_section(
     alloc: Global,
     cursor: &mut Cursor<'_>,
@@ -151,7 +157,7 @@ fn init_section(
 }
 
 /// `gformula )`
-#[tactic(auto, unfolding(crate::specs::Reading::and_then))]
+#[tactic(auto, unfolding(pddl_forms::specs::Inner::Reading::and_then))]
 fn goal_section(
     alloc: Global,
     cursor: &mut Cursor<'_>,
@@ -241,8 +247,8 @@ fn problem_of(alloc: Global, name: Word, sections: ProblemSections) -> ProblemTe
 }
 
 /// The text of a problem, with what stands after it left.
-#[tactic(auto, unfolding(crate::specs::Reading::and_then, crate::specs::SectionReading::problem))]
-pub fn problem_text(alloc: Global, cursor: &mut Cursor<'_>) -> Result<ProblemText, Stop>
+#[tactic(auto, unfolding(pddl_forms::specs::Inner::Reading::and_then, crate::specs::Inner::SectionReading::problem))]
+pub(crate) fn problem_text(alloc: Global, cursor: &mut Cursor<'_>) -> Result<ProblemText, Stop>
     ensures { Reads (problem cursor.old) result cursor.new }
 {
     let name = opening(alloc, cursor, b"problem")?;

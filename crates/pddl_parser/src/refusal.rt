@@ -1,7 +1,7 @@
 ghost use Rattle.std.specs.Prelude.{◌≡◌};
-ghost use Rattle.pddl_parser.specs.Answering.{refusal_of_lexer, refusal_of_misplaced, refusal_of_stop};
+ghost use Rattle.pddl_parser.specs.Inner.Answering.{refusal_of_lexer, refusal_of_misplaced, refusal_of_stop};
 
-use crate::stop::{Stop, Why};
+use pddl_forms::{Stop, Why};
 use pddl_lexer::{LexRefusal, Misplaced};
 use thiserror::Error;
 

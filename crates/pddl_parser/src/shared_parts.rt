@@ -1,19 +1,17 @@
 ghost use Rattle.std.specs.Prelude.{◌≡◌};
-ghost use Rattle.pddl_parser.specs.Lexemes.{lower};
-ghost use Rattle.pddl_parser.specs.Reading.{Reads, many, opening};
-ghost use Rattle.pddl_parser.specs.Choosing.{requirement};
+ghost use Rattle.pddl_forms.specs.Lexemes.{lower};
+ghost use Rattle.pddl_forms.specs.Inner.Reading.{Reads, many};
+ghost use Rattle.pddl_parser.specs.Inner.SectionReading.{opening};
+ghost use Rattle.pddl_parser.specs.Inner.Choosing.{requirement};
 
-use crate::cursor::Cursor;
-use crate::item_lists::{ItemReader, items};
-use crate::stop::{Stop, Why};
-use crate::texts::Word;
 use flag_rules::List;
+use pddl_forms::{Cursor, ItemReader, Stop, Why, Word, items};
 use pddl_lexer::Kind;
 use std::alloc::Global;
 
 /// `( define ( KIND NAME )`
-#[tactic(auto, unfolding(crate::specs::Reading::and_then, crate::specs::Reading::opening))]
-pub fn opening(alloc: Global, cursor: &mut Cursor<'_>, kind: &[u8]) -> Result<Word, Stop>
+#[tactic(auto, unfolding(pddl_forms::specs::Inner::Reading::and_then, crate::specs::Inner::SectionReading::opening))]
+pub(crate) fn opening(alloc: Global, cursor: &mut Cursor<'_>, kind: &[u8]) -> Result<Word, Stop>
     requires { lower kind.now ≡ kind.now }
     ensures { Reads (opening kind.now cursor.old) result cursor.new }
 {
@@ -49,7 +47,7 @@ impl ItemReader for Requirement {
 }
 
 /// Words of `:requirements`, up to the right parenthesis.
-pub fn requirements(alloc: Global, cursor: &mut Cursor<'_>) -> Result<List<Word>, Stop>
+pub(crate) fn requirements(alloc: Global, cursor: &mut Cursor<'_>) -> Result<List<Word>, Stop>
     ensures { Reads (many requirement cursor.old) result cursor.new }
 {
     items(alloc, cursor, &Requirement)

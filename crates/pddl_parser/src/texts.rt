@@ -1,25 +1,5 @@
-use flag_rules::{List, Text};
-
-/// A word of a text in lower case, with the place of its first byte. A variable keeps its `?`, a keyword its `:`.
-#[derive(Debug, Drop)]
-pub struct Word {
-    pub text: Text,
-    pub at: u32,
-}
-
-/// A word of a typed list, with the type that the list gives it, if any.
-#[derive(Debug, Drop)]
-pub struct Typed {
-    pub word: Word,
-    pub of: Option<Word>,
-}
-
-/// An atom: its predicate's name, and names or variables.
-#[derive(Debug, Drop)]
-pub struct AtomText {
-    pub head: Word,
-    pub args: List<Word>,
-}
+use flag_rules::List;
+use pddl_forms::{AtomText, Typed, Word};
 
 /// A predicate: its name, and its variables.
 #[derive(Debug, Drop)]

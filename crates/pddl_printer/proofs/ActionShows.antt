@@ -2,14 +2,15 @@
 use Rattle.std.proofs.Common.{◌≡◌, ℕ, List, [], ◌∷◌, ◌++◌, Some, codes, refl, sym, subst, append_assoc}
 use Rattle.std.specs.Prelude.{All}
 use Rattle.std.specs.List.{flat_map}
-use Rattle.pddl_parser.specs.declared.texts.Typed.{Typed}
-use Rattle.pddl_parser.specs.declared.texts.AtomText.{AtomText}
+use Rattle.pddl_forms.specs.declared.texts.Typed.{Typed}
+use Rattle.pddl_forms.specs.declared.texts.AtomText.{AtomText}
 use Rattle.pddl_parser.specs.declared.texts.ActionText.{ActionText}
-use Rattle.pddl_parser.specs.declared.formulas.AtomChange.{AtomChange}
-use Rattle.pddl_parser.specs.declared.formulas.AtomChange.TheVariants.{Added, Deleted}
-use Rattle.pddl_parser.specs.declared.actions.ActionParts.{ActionParts}
-use Rattle.pddl_parser.specs.Lexemes.{Lexeme, right}
-use Rattle.pddl_parser.specs.Grammar.{IsTerm, IsLiftedAtom, Closed, closed, IsChange, is_added, is_deleted, added, deleted, Conjunction, Conjuncts, finished, also, just, all_of, IsSection, is_section, IsPart, is_part, Opened, opened, IsVariables, IsVariableWord, no_parts, IsParts, no_more_parts, parameters, precondition, effect, action_of, IsAction, is_action}
+use Rattle.pddl_forms.specs.declared.texts.AtomChange.{AtomChange}
+use Rattle.pddl_forms.specs.declared.texts.AtomChange.TheVariants.{Added, Deleted}
+use Rattle.pddl_parser.specs.Sections.{ActionParts}
+use Rattle.pddl_forms.specs.Lexemes.{Lexeme, right}
+use Rattle.pddl_forms.specs.Forms.{IsTerm, IsLiftedAtom, Closed, closed, IsChange, is_added, is_deleted, added, deleted, Conjunction, Conjuncts, finished, also, just, all_of, IsVariables, IsVariableWord}
+use Rattle.pddl_parser.specs.Grammar.{IsSection, is_section, IsPart, is_part, Opened, opened, no_parts, IsParts, no_more_parts, parameters, precondition, effect, action_of, IsAction, is_action}
 use Rattle.pddl_parser.specs.Spelled.{IsVariable, IsTermText, IsAtomSpelled, IsActionSpelled}
 use Rattle.pddl_printer.specs.Printing.{typed_words, atom_words, deleted_words, formula_words, effect_words, part_words, action_words}
 use Rattle.pddl_printer.specs.Alike.{AlikeTyped, AlikeAtom, AlikeAction, AreAlike}

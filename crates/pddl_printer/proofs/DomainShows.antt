@@ -6,9 +6,10 @@ use Rattle.std.specs.List.{flat_map}
 use Rattle.pddl_parser.specs.declared.texts.PredText.{PredText}
 use Rattle.pddl_parser.specs.declared.texts.ActionText.{ActionText}
 use Rattle.pddl_parser.specs.declared.texts.DomainText.{DomainText}
-use Rattle.pddl_parser.specs.declared.domain_sections.DomainSections.{DomainSections}
-use Rattle.pddl_parser.specs.Lexemes.{Lexeme, right}
-use Rattle.pddl_parser.specs.Grammar.{Many, IsPredicate, IsSection, IsDomainSections, no_more_sections, requirements, types, constants, predicates, action, domain_of, IsDomain, is_domain}
+use Rattle.pddl_parser.specs.Sections.{DomainSections}
+use Rattle.pddl_forms.specs.Lexemes.{Lexeme, right}
+use Rattle.pddl_forms.specs.Forms.{Many}
+use Rattle.pddl_parser.specs.Grammar.{IsPredicate, IsSection, IsDomainSections, no_more_sections, requirements, types, constants, predicates, action, domain_of, IsDomain, is_domain}
 use Rattle.pddl_parser.specs.Spelled.{IsPredicateSpelled, IsActionSpelled, IsDomainSpelled}
 use Rattle.pddl_printer.specs.Printing.{section, texts_of, typed_words, predicate_words, action_words, domain_section_words, domain_words}
 use Rattle.pddl_printer.specs.Alike.{AlikePredicate, AlikeAction, AlikeDomain, AreAlike}

@@ -5,7 +5,7 @@ use Rattle.std.proofs.Math.Seq.{drop-append_seam}
 use Rattle.pddl_lexer.specs.declared.lexer.Token.{Token}
 use Rattle.pddl_lexer.specs.Lexing.{name_len, piece_of, before, tokens_at, tokens_of}
 use Rattle.pddl_lexer.proofs.Pieces.{tokens_at-taken}
-use Rattle.pddl_parser.specs.Lexemes.{Lexeme, lexeme, see, lexemes, lower}
+use Rattle.pddl_forms.specs.Lexemes.{Lexeme, lexeme, see, lexemes, lower}
 use Rattle.pddl_printer.specs.Printing.{spaced, line_of_words}
 use Rattle.pddl_printer.proofs.Tokens.{kind_of, IsFront, IsToken}
 

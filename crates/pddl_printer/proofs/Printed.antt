@@ -3,7 +3,7 @@ use Rattle.std.proofs.Common.{◌≡◌, ℕ, ◌+◌, List, [], ◌∷◌, ◌+
 use Rattle.pddl_lexer.specs.Parentheses.{misplaced, misplaced_in}
 use Rattle.pddl_parser.specs.declared.texts.DomainText.{DomainText}
 use Rattle.pddl_parser.specs.declared.texts.ProblemText.{ProblemText}
-use Rattle.pddl_parser.specs.Lexemes.{Lexeme, lexemes}
+use Rattle.pddl_forms.specs.Lexemes.{Lexeme, lexemes}
 use Rattle.pddl_parser.specs.Grammar.{IsDomain, IsProblem}
 use Rattle.pddl_parser.specs.Spelled.{IsDomainSpelled, IsProblemSpelled}
 use Rattle.pddl_parser.specs.Replies.{HasText, HasDomain, HasProblem}

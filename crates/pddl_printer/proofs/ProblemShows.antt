@@ -3,12 +3,13 @@ use Rattle.std.proofs.Common.{◌≡◌, ℕ, List, [], ◌∷◌, ◌++◌, Som
 use Rattle.std.specs.Prelude.{All}
 use Rattle.std.specs.List.{flat_map}
 use Rattle.flag_rules.specs.Name.{IsName}
-use Rattle.pddl_parser.specs.declared.texts.Word.{Word}
-use Rattle.pddl_parser.specs.declared.texts.AtomText.{AtomText}
+use Rattle.pddl_forms.specs.declared.texts.Word.{Word}
+use Rattle.pddl_forms.specs.declared.texts.AtomText.{AtomText}
 use Rattle.pddl_parser.specs.declared.texts.ProblemText.{ProblemText}
-use Rattle.pddl_parser.specs.declared.problem_sections.ProblemSections.{ProblemSections}
-use Rattle.pddl_parser.specs.Lexemes.{Lexeme, right}
-use Rattle.pddl_parser.specs.Grammar.{Many, Closed, Conjunction, IsNameWord, IsGroundAtom, IsSection, IsProblemSections, all_stand, of_domain, needs, objects, init, goal, IsProblem, is_problem}
+use Rattle.pddl_parser.specs.Sections.{ProblemSections}
+use Rattle.pddl_forms.specs.Lexemes.{Lexeme, right}
+use Rattle.pddl_forms.specs.Forms.{Many, Closed, Conjunction, IsNameWord, IsGroundAtom}
+use Rattle.pddl_parser.specs.Grammar.{IsSection, IsProblemSections, all_stand, of_domain, needs, objects, init, goal, IsProblem, is_problem}
 use Rattle.pddl_parser.specs.Spelled.{IsAtomSpelled, IsProblemSpelled}
 use Rattle.pddl_printer.specs.Printing.{section, texts_of, typed_words, atom_words, formula_words, problem_section_words, problem_words}
 use Rattle.pddl_printer.specs.Alike.{AlikeWord, AlikeAtom, AlikeProblem, AreAlike}

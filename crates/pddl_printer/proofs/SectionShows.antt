@@ -2,10 +2,11 @@
 use Rattle.std.proofs.Common.{◌≡◌, ℕ, List, [], ◌∷◌, ◌++◌, codes, refl, append_assoc}
 use Rattle.std.specs.Prelude.{All}
 use Rattle.flag_rules.specs.Name.{IsName}
-use Rattle.pddl_parser.specs.declared.texts.Word.{Word}
-use Rattle.pddl_parser.specs.declared.texts.Typed.{Typed}
-use Rattle.pddl_parser.specs.Lexemes.{Lexeme}
-use Rattle.pddl_parser.specs.Grammar.{word, IsOpening, is_opening, IsSection, IsNames, IsNameWord, IsRequirement, Many}
+use Rattle.pddl_forms.specs.declared.texts.Word.{Word}
+use Rattle.pddl_forms.specs.declared.texts.Typed.{Typed}
+use Rattle.pddl_forms.specs.Lexemes.{Lexeme}
+use Rattle.pddl_forms.specs.Forms.{word, IsNames, IsNameWord, Many}
+use Rattle.pddl_parser.specs.Grammar.{IsOpening, is_opening, IsSection, IsRequirement}
 use Rattle.pddl_parser.specs.Spelled.{IsRequirementText, IsTypedSpelled}
 use Rattle.pddl_printer.specs.Printing.{section, texts_of, typed_words}
 use Rattle.pddl_printer.specs.Alike.{AlikeWord, AlikeTyped, AreAlike}

@@ -4,10 +4,11 @@ use Rattle.std.specs.Prelude.{All}
 use Rattle.std.specs.List.{flat_map}
 use Rattle.std.proofs.lemmas.List.Concat.{flat_map_single}
 use Rattle.flag_rules.specs.Name.{IsName}
-use Rattle.pddl_parser.specs.declared.texts.Word.{Word}
-use Rattle.pddl_parser.specs.declared.texts.AtomText.{AtomText}
-use Rattle.pddl_parser.specs.Lexemes.{Lexeme}
-use Rattle.pddl_parser.specs.Grammar.{word, IsNameWord, is_name_word, IsHead, is_head, IsTerm, is_constant, is_argument, Many, close, more, IsAtom, is_atom, Conjunction, Conjuncts, finished, also, just, all_of, IsVariableWord, is_variable_word, IsRequirement, is_requirement}
+use Rattle.pddl_forms.specs.declared.texts.Word.{Word}
+use Rattle.pddl_forms.specs.declared.texts.AtomText.{AtomText}
+use Rattle.pddl_forms.specs.Lexemes.{Lexeme}
+use Rattle.pddl_forms.specs.Forms.{word, IsNameWord, is_name_word, IsHead, is_head, IsTerm, is_constant, is_argument, Many, close, more, IsAtom, is_atom, Conjunction, Conjuncts, finished, also, just, all_of, IsVariableWord, is_variable_word}
+use Rattle.pddl_parser.specs.Grammar.{IsRequirement, is_requirement}
 use Rattle.pddl_parser.specs.Spelled.{IsVariable, IsTermText, IsRequirementText, IsHeadText, IsAtomSpelled}
 use Rattle.pddl_printer.specs.Printing.{texts_of, atom_words, formula_words}
 use Rattle.pddl_printer.specs.Alike.{AlikeWord, AlikeAtom, AreAlike}

@@ -8,7 +8,7 @@ use Rattle.pddl_lexer.specs.declared.lexer.Kind.{Kind}
 use Rattle.pddl_lexer.specs.declared.lexer.Kind.TheVariants.{LeftParen, RightParen, Name, Variable, Keyword, Dash}
 use Rattle.pddl_lexer.specs.declared.lexer.Piece.TheVariants.{Spelled}
 use Rattle.pddl_lexer.specs.Lexing.{is_blank, starts_name, name_len, piece_of}
-use Rattle.pddl_parser.specs.Lexemes.{lower}
+use Rattle.pddl_forms.specs.Lexemes.{lower}
 use Rattle.pddl_parser.specs.Spelled.{IsVariable}
 
 -- the kind of a word, by its first byte

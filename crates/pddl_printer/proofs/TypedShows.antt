@@ -4,11 +4,12 @@ use Rattle.std.specs.Prelude.{All}
 use Rattle.std.specs.List.{list_any}
 use Rattle.flag_rules.specs.Name.{IsName}
 use Rattle.pddl_lexer.specs.declared.lexer.Kind.{Kind}
-use Rattle.pddl_parser.specs.declared.texts.Word.{Word}
-use Rattle.pddl_parser.specs.declared.texts.Typed.{Typed}
+use Rattle.pddl_forms.specs.declared.texts.Word.{Word}
+use Rattle.pddl_forms.specs.declared.texts.Typed.{Typed}
 use Rattle.pddl_parser.specs.declared.texts.PredText.{PredText}
-use Rattle.pddl_parser.specs.Lexemes.{Lexeme, lexeme, name, dash}
-use Rattle.pddl_parser.specs.Grammar.{word, typed, Many, close, more, last, TypedList, untyped_words, typed_group, IsVariableWord, IsPredicate, is_predicate}
+use Rattle.pddl_forms.specs.Lexemes.{Lexeme, lexeme, name, dash}
+use Rattle.pddl_forms.specs.Forms.{word, typed, Many, close, more, last, TypedList, untyped_words, typed_group, IsVariableWord}
+use Rattle.pddl_parser.specs.Grammar.{IsPredicate, is_predicate}
 use Rattle.pddl_parser.specs.Spelled.{IsVariable, IsTypedSpelled, IsPredicateSpelled}
 use Rattle.pddl_printer.specs.Printing.{has_type, type_words, typed_words, predicate_words}
 use Rattle.pddl_printer.specs.Alike.{AlikeWord, AlikeType, AlikeTyped, AlikePredicate, AreAlike}

@@ -1,9 +1,9 @@
 -- When a text says the same as another: its words are the same, in the same order, wherever they stand, and a word of a typed
 -- list may have the type `object` where the other has none.
 use Rattle.std.specs.Prelude.{◌≡◌, List, [], ◌∷◌, Option, Some, None, codes}
-use Rattle.pddl_parser.specs.declared.texts.Word.{Word}
-use Rattle.pddl_parser.specs.declared.texts.Typed.{Typed}
-use Rattle.pddl_parser.specs.declared.texts.AtomText.{AtomText}
+use Rattle.pddl_forms.specs.declared.texts.Word.{Word}
+use Rattle.pddl_forms.specs.declared.texts.Typed.{Typed}
+use Rattle.pddl_forms.specs.declared.texts.AtomText.{AtomText}
 use Rattle.pddl_parser.specs.declared.texts.PredText.{PredText}
 use Rattle.pddl_parser.specs.declared.texts.ActionText.{ActionText}
 use Rattle.pddl_parser.specs.declared.texts.DomainText.{DomainText}

@@ -8,7 +8,7 @@ use pddl_parser::{AtomText, PredText};
 
 /// Adds a predicate.
 #[tactic(auto, using(crate::proofs::Spaced::spacing), unfolding(crate::specs::Printing::predicate_words))]
-pub fn predicate(out: &mut Text, predicate: &PredText) -> Result<(), OutOfMemory>
+pub(crate) fn predicate(out: &mut Text, predicate: &PredText) -> Result<(), OutOfMemory>
     ensures { OnOk result (out.new ≡ out.old ++ spaced (predicate_words predicate.now)) }
 {
     open(out, predicate.head.text.as_slice())?;
@@ -37,7 +37,7 @@ fn deleted_atom(out: &mut Text, deleted: &AtomText) -> Result<(), OutOfMemory>
 }
 
 /// Adds some atoms.
-pub fn atoms(out: &mut Text, atoms: &List<AtomText>) -> Result<(), OutOfMemory>
+pub(crate) fn atoms(out: &mut Text, atoms: &List<AtomText>) -> Result<(), OutOfMemory>
     ensures { OnOk result (out.new ≡ out.old ++ spaced (flat_map atom_words atoms.now)) }
 {
     for each in atoms.as_slice() {
@@ -58,7 +58,7 @@ fn deleted_atoms(out: &mut Text, atoms: &List<AtomText>) -> Result<(), OutOfMemo
 
 /// Adds a conjunction of atoms.
 #[tactic(auto, using(crate::proofs::Spaced::spacing), unfolding(crate::specs::Printing::formula_words))]
-pub fn formula(out: &mut Text, conjuncts: &List<AtomText>) -> Result<(), OutOfMemory>
+pub(crate) fn formula(out: &mut Text, conjuncts: &List<AtomText>) -> Result<(), OutOfMemory>
     ensures { OnOk result (out.new ≡ out.old ++ spaced (formula_words conjuncts.now)) }
 {
     open(out, b"and")?;
@@ -68,7 +68,7 @@ pub fn formula(out: &mut Text, conjuncts: &List<AtomText>) -> Result<(), OutOfMe
 
 /// Adds an effect.
 #[tactic(auto, using(crate::proofs::Spaced::spacing), unfolding(crate::specs::Printing::effect_words))]
-pub fn effect(
+pub(crate) fn effect(
     out: &mut Text,
     added: &List<AtomText>,
     deleted: &List<AtomText>,

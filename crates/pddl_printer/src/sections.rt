@@ -9,7 +9,7 @@ use pddl_parser::{ActionText, AtomText, DomainText, PredText, ProblemText, Typed
 
 /// Adds a section of one word.
 #[tactic(auto, using(crate::proofs::Spaced::spacing))]
-pub fn word_section(out: &mut Text, key: &[u8], value: &Word) -> Result<(), OutOfMemory>
+pub(crate) fn word_section(out: &mut Text, key: &[u8], value: &Word) -> Result<(), OutOfMemory>
     ensures { OnOk result (out.new ≡ out.old ++ spaced (section key.now (value.now.text ∷ []))) }
 {
     open(out, key)?;
@@ -111,7 +111,7 @@ fn actions(out: &mut Text, actions: &List<ActionText>) -> Result<(), OutOfMemory
 
 /// Adds the sections of a domain.
 #[tactic(auto, using(crate::proofs::Spaced::spacing), unfolding(crate::specs::Printing::domain_section_words))]
-pub fn domain_sections(out: &mut Text, domain: &DomainText) -> Result<(), OutOfMemory>
+pub(crate) fn domain_sections(out: &mut Text, domain: &DomainText) -> Result<(), OutOfMemory>
     ensures { OnOk result (out.new ≡ out.old ++ spaced (domain_section_words domain.now)) }
 {
     words_section(out, b":requirements", &domain.requirements)?;
@@ -143,7 +143,7 @@ fn goal_section(out: &mut Text, goal: &List<AtomText>) -> Result<(), OutOfMemory
 
 /// Adds the sections of a problem.
 #[tactic(auto, using(crate::proofs::Spaced::spacing), unfolding(crate::specs::Printing::problem_section_words))]
-pub fn problem_sections(out: &mut Text, problem: &ProblemText) -> Result<(), OutOfMemory>
+pub(crate) fn problem_sections(out: &mut Text, problem: &ProblemText) -> Result<(), OutOfMemory>
     ensures { OnOk result (out.new ≡ out.old ++ spaced (problem_section_words problem.now)) }
 {
     word_section(out, b":domain", &problem.domain)?;

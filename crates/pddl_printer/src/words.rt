@@ -6,7 +6,7 @@ use flag_rules::{List, OutOfMemory, Text};
 use pddl_parser::{Typed, Word};
 
 /// Adds a word.
-pub fn word(out: &mut Text, word: &[u8]) -> Result<(), OutOfMemory>
+pub(crate) fn word(out: &mut Text, word: &[u8]) -> Result<(), OutOfMemory>
     ensures { OnOk result (out.new ≡ out.old ++ spaced (word.now ∷ [])) }
 {
     out.push(b' ')?;
@@ -14,7 +14,7 @@ pub fn word(out: &mut Text, word: &[u8]) -> Result<(), OutOfMemory>
 }
 
 /// Adds a left parenthesis and the word after it.
-pub fn open(out: &mut Text, first: &[u8]) -> Result<(), OutOfMemory>
+pub(crate) fn open(out: &mut Text, first: &[u8]) -> Result<(), OutOfMemory>
     ensures { OnOk result (out.new ≡ out.old ++ spaced (codes "(" ∷ first.now ∷ [])) }
 {
     word(out, b"(")?;
@@ -22,14 +22,14 @@ pub fn open(out: &mut Text, first: &[u8]) -> Result<(), OutOfMemory>
 }
 
 /// Adds a right parenthesis.
-pub fn close(out: &mut Text) -> Result<(), OutOfMemory>
+pub(crate) fn close(out: &mut Text) -> Result<(), OutOfMemory>
     ensures { OnOk result (out.new ≡ out.old ++ spaced (codes ")" ∷ [])) }
 {
     word(out, b")")
 }
 
 /// Adds some words.
-pub fn words(out: &mut Text, words: &List<Word>) -> Result<(), OutOfMemory>
+pub(crate) fn words(out: &mut Text, words: &List<Word>) -> Result<(), OutOfMemory>
     ensures { OnOk result (out.new ≡ out.old ++ spaced (texts_of words.now)) }
 {
     for each in words.as_slice() {
@@ -65,14 +65,14 @@ fn typed_word(out: &mut Text, name: &Typed, is_typed_later: bool) -> Result<(), 
 {
     word(out, name.word.text.as_slice())?;
     match &name.of {
-        Some(of) => type_word(out, of.text.as_slice()),
+        Some(of) => type_word(out, of.word().text.as_slice()),
         None if is_typed_later => type_word(out, b"object"),
         None => Ok(()),
     }
 }
 
 /// Adds a typed list.
-pub fn typed_list(out: &mut Text, names: &List<Typed>) -> Result<(), OutOfMemory>
+pub(crate) fn typed_list(out: &mut Text, names: &List<Typed>) -> Result<(), OutOfMemory>
     ensures { OnOk result (out.new ≡ out.old ++ spaced (typed_words names.now)) }
 {
     let names = names.as_slice();

@@ -1,4 +1,5 @@
-use pddl_lexer::{Kind, LONGEST, LexRefusal, Misplaced, misplaced_parenthesis, tokens};
+use flag_rules::MAX_FILE_BYTES;
+use pddl_lexer::{Kind, LexRefusal, Misplaced, misplaced_parenthesis, tokens};
 use std::alloc::Global;
 
 type Span = (Kind, u32, u32);
@@ -25,7 +26,7 @@ fn tells_the_tokens_with_their_spans(rt: HostRuntime) -> Result<(), LexRefusal> 
 }
 
 fn stray_byte(alloc: Global, text: &[u8]) -> Option<u32> {
-    if text.len() > LONGEST {
+    if text.len() > MAX_FILE_BYTES {
         return None;
     }
     match tokens(alloc, text) {
@@ -49,7 +50,7 @@ fn tells_the_first_byte_that_begins_no_token(rt: HostRuntime) {
 }
 
 fn misplaced(alloc: Global, text: &[u8]) -> Result<Option<Misplaced>, LexRefusal> {
-    if text.len() > LONGEST {
+    if text.len() > MAX_FILE_BYTES {
         return Ok(None);
     }
     let list = tokens(alloc, text)?;

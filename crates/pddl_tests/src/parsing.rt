@@ -1,5 +1,5 @@
-use flag_rules::List;
-use pddl_parser::{AtomText, LONGEST, ParseRefusal, Typed, Word, domain, problem};
+use flag_rules::{List, MAX_FILE_BYTES};
+use pddl_parser::{AtomText, ParseRefusal, Typed, Word, domain, problem};
 use std::alloc::{AllocError, Global};
 
 /// Tells a word and its place.
@@ -23,7 +23,7 @@ fn tell_typed(told: &mut String, words: &List<Typed>) -> Result<(), AllocError> 
         tell_word(told, &typed.word)?;
         if let Some(of) = &typed.of {
             told.push_str("- ")?;
-            tell_word(told, of)?;
+            tell_word(told, of.word())?;
         }
     }
     told.push_str("/ ")
@@ -106,7 +106,7 @@ fn reads_a_problem_with_its_places(rt: HostRuntime) -> Result<(), AllocError> {
 
 /// The refusal of a domain, if it has one and is not too long.
 fn domain_refusal(alloc: Global, bytes: &[u8]) -> Option<ParseRefusal> {
-    if bytes.len() > LONGEST {
+    if bytes.len() > MAX_FILE_BYTES {
         return None;
     }
     domain(alloc, bytes).err()
@@ -114,7 +114,7 @@ fn domain_refusal(alloc: Global, bytes: &[u8]) -> Option<ParseRefusal> {
 
 /// The refusal of a problem, if it has one and is not too long.
 fn problem_refusal(alloc: Global, bytes: &[u8]) -> Option<ParseRefusal> {
-    if bytes.len() > LONGEST {
+    if bytes.len() > MAX_FILE_BYTES {
         return None;
     }
     problem(alloc, bytes).err()
@@ -227,7 +227,50 @@ fn reads_64_nested_lists(rt: HostRuntime) -> Result<(), AllocError> {
 fn reads_a_text_of_a_mebibyte(rt: HostRuntime) -> Result<(), AllocError> {
     let mut bytes = Vec::from_slice(rt.alloc(), DOMAIN)?;
     bytes.resize(1_048_576, b' ')?;
-    assert!(rt; bytes.len() <= LONGEST);
+    assert!(rt; bytes.len() <= MAX_FILE_BYTES);
     assert!(rt; domain(rt.alloc(), &bytes).is_ok());
+    Ok(())
+}
+
+const NAMES: usize = 250_000;
+
+const LETTERS: usize = 400_000;
+
+/// A domain whose constants are all of one type, which has a very long name.
+fn domain_of_a_long_type(alloc: Global) -> Result<Vec<u8>, AllocError> {
+    let mut bytes = Vec::from_slice(alloc, b"(define (domain d) (:constants")?;
+    for _ in 0..NAMES {
+        bytes.extend_from_slice(b" a")?;
+    }
+    bytes.extend_from_slice(b" - ")?;
+    for _ in 0..LETTERS {
+        bytes.push(b't')?;
+    }
+    bytes.extend_from_slice(b"))")?;
+    Ok(bytes)
+}
+
+/// How long the name of the type of a word is.
+fn type_length(typed: &Typed) -> usize {
+    match &typed.of {
+        Some(of) => of.word().text.len(),
+        None => 0,
+    }
+}
+
+#[test]
+fn words_share_a_very_long_type(rt: HostRuntime) -> Result<(), AllocError> {
+    let bytes = domain_of_a_long_type(rt.alloc())?;
+    assert!(rt; bytes.len() <= MAX_FILE_BYTES);
+    let Ok(text) = domain(rt.alloc(), &bytes) else {
+        panic!(rt; "no domain");
+    };
+    assert_eq!(rt; text.constants.len(), NAMES);
+    assert!(rt;
+        text.constants
+            .as_slice()
+            .iter()
+            .all(|typed| type_length(typed) == LETTERS)
+    );
     Ok(())
 }

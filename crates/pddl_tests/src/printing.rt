@@ -1,13 +1,13 @@
 ghost use Rattle.std.specs.Prelude.{◌≤◌, length};
-ghost use Rattle.pddl_lexer.specs.declared.lexer.TheConstants.{LONGEST};
+ghost use Rattle.flag_rules.specs.declared.file.TheConstants.{MAX_FILE_BYTES};
 
-use flag_rules::{List, OutOfMemory, Text};
-use pddl_parser::{DomainText, LONGEST, ParseRefusal, Typed, Word, domain, problem};
+use flag_rules::{List, MAX_FILE_BYTES, OutOfMemory, Text};
+use pddl_parser::{DomainText, ParseRefusal, SharedWord, Typed, Word, domain, problem};
 use pddl_printer::{print_domain, print_problem};
 use std::alloc::Global;
 
 fn domain_reprinted(alloc: Global, bytes: &[u8]) -> Result<Vec<u8>, ParseRefusal>
-    requires { length bytes.now ≤ LONGEST }
+    requires { length bytes.now ≤ MAX_FILE_BYTES }
 {
     let text = domain(alloc, bytes)?;
     match print_domain(alloc, &text) {
@@ -17,7 +17,7 @@ fn domain_reprinted(alloc: Global, bytes: &[u8]) -> Result<Vec<u8>, ParseRefusal
 }
 
 fn problem_reprinted(alloc: Global, bytes: &[u8]) -> Result<Vec<u8>, ParseRefusal>
-    requires { length bytes.now ≤ LONGEST }
+    requires { length bytes.now ≤ MAX_FILE_BYTES }
 {
     let text = problem(alloc, bytes)?;
     match print_problem(alloc, &text) {
@@ -67,7 +67,7 @@ fn constants(alloc: Global) -> Result<List<Typed>, OutOfMemory> {
     })?;
     names.push(Typed {
         word: word(alloc, b"lamp")?,
-        of: Some(word(alloc, b"light")?),
+        of: Some(SharedWord::new(alloc, word(alloc, b"light")?)?),
     })?;
     names.push(Typed {
         word: word(alloc, b"hall")?,
@@ -118,11 +118,22 @@ const GRIPPER: &[u8] = b"; A robot with two grippers carries balls from one room
                        (carry ?obj ?gripper) (at-robby ?room))
     :effect (and (at ?obj ?room) (free ?gripper) (not (carry ?obj ?gripper)))))";
 
+const EVENING: &[u8] =
+    b"(define (problem evening) (:init (lit hall) (near hall desk)) (:requirements :typing :strips)
+  (:goal (and (lit lamp) (and) (lit desk))) (:objects lamp desk - light hall) (:domain lights))";
+
+const NIGHT: &[u8] = b"(define (problem night) (:domain lights) (:goal ()))";
+
 #[test]
 fn prints_what_was_printed_as_it_is(rt: HostRuntime) -> Result<(), ParseRefusal> {
     for text in [CORRIDOR, GRIPPER] {
         let once = domain_reprinted(rt.alloc(), text)?;
-        let twice = domain_reprinted(rt.alloc(), &once[..once.len().min(LONGEST)])?;
+        let twice = domain_reprinted(rt.alloc(), &once[..once.len().min(MAX_FILE_BYTES)])?;
+        assert_eq!(rt; twice.as_slice(), once.as_slice());
+    }
+    for text in [EVENING, NIGHT] {
+        let once = problem_reprinted(rt.alloc(), text)?;
+        let twice = problem_reprinted(rt.alloc(), &once[..once.len().min(MAX_FILE_BYTES)])?;
         assert_eq!(rt; twice.as_slice(), once.as_slice());
     }
     Ok(())

@@ -1,8 +1,9 @@
 ghost use Rattle.std.specs.Prelude.{IfOk};
 ghost use Rattle.pddl_parser.specs.Replies.{IsDomainText, IsProblemText};
 
+use flag_rules::MAX_FILE_BYTES;
 use ground_state::{Fact, Instance, Lifted, ObjectEntry, SchemaEntry, Task, Term, TypeEntry};
-use pddl_parser::{DomainText, LONGEST, ProblemText, domain, problem};
+use pddl_parser::{DomainText, ProblemText, domain, problem};
 use pddl_task::{TaskRefusal, Which, instance, task};
 use std::alloc::Global;
 use std::test::Fail;
@@ -17,7 +18,7 @@ const LIT: &[u8] =
 fn domain_text(alloc: Global, bytes: &[u8]) -> Result<DomainText, Fail>
     ensures { IfOk result IsDomainText }
 {
-    if bytes.len() > LONGEST {
+    if bytes.len() > MAX_FILE_BYTES {
         return Err(Fail::new("too long"));
     }
     Ok(domain(alloc, bytes)?)
@@ -26,7 +27,7 @@ fn domain_text(alloc: Global, bytes: &[u8]) -> Result<DomainText, Fail>
 fn problem_text(alloc: Global, bytes: &[u8]) -> Result<ProblemText, Fail>
     ensures { IfOk result IsProblemText }
 {
-    if bytes.len() > LONGEST {
+    if bytes.len() > MAX_FILE_BYTES {
         return Err(Fail::new("too long"));
     }
     Ok(problem(alloc, bytes)?)

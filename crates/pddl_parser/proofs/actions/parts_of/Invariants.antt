@@ -1,6 +1,6 @@
 use Rattle.std.proofs.Common.{◌≡◌, length}
 use Rattle.pddl_parser.specs.Grammar.{no_parts}
-use Rattle.pddl_parser.specs.SectionReading.{parts}
+use Rattle.pddl_parser.specs.Inner.SectionReading.{parts}
 use Rattle.pddl_parser.proofs.actions.parts_of.Given as goal
 
 abbrev pub invariant-loop-alloc : goal.invariant-loop-alloc

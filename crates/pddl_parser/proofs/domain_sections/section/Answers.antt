@@ -1,6 +1,6 @@
 use Rattle.std.proofs.lemmas.Result.{err_from_is_err_and}
-use Rattle.pddl_parser.specs.Offending.{domain_keywords}
-use Rattle.pddl_parser.specs.SectionReading.{domain_choices}
+use Rattle.pddl_forms.specs.Offending.{domain_keywords}
+use Rattle.pddl_parser.specs.Inner.SectionReading.{domain_choices}
 use Rattle.pddl_parser.proofs.Chosen.{section-opened, section-err}
 use Rattle.pddl_parser.proofs.SectionRounds.{domain_may}
 use Rattle.pddl_parser.proofs.domain_sections.section.Goals as goal

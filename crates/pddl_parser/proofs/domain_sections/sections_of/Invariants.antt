@@ -1,6 +1,6 @@
 use Rattle.std.proofs.Common.{◌≡◌, length}
 use Rattle.pddl_parser.specs.Grammar.{no_domain_sections}
-use Rattle.pddl_parser.specs.SectionReading.{domain_sections}
+use Rattle.pddl_parser.specs.Inner.SectionReading.{domain_sections}
 use Rattle.pddl_parser.proofs.domain_sections.sections_of.Given as goal
 
 abbrev pub invariant-loop-alloc : goal.invariant-loop-alloc

@@ -1,5 +1,5 @@
-use Rattle.pddl_parser.proofs.Wholes.{one-problem-reply}
+use Rattle.pddl_parser.proofs.Wholes.{some-problem-reply, one-problem-reply}
 use Rattle.pddl_parser.proofs.laws.one_problem_reply.Goals as goal
 
 pub returns : goal.returns
-returns c = one-problem-reply
+returns c = record { some = some-problem-reply; one = one-problem-reply }

@@ -1,7 +1,7 @@
 use Rattle.std.proofs.Common.{sym, ◌∙◌}
 use Rattle.std.proofs.lemmas.Result.{err_from_is_err_and}
-use Rattle.pddl_parser.specs.Offending.{problem_keywords}
-use Rattle.pddl_parser.specs.SectionReading.{problem_choices}
+use Rattle.pddl_forms.specs.Offending.{problem_keywords}
+use Rattle.pddl_parser.specs.Inner.SectionReading.{problem_choices}
 use Rattle.pddl_parser.proofs.Chosen.{section-full, section-opened, section-err}
 use Rattle.pddl_parser.proofs.problem_sections.section.Goals as goal
 

@@ -1,6 +1,6 @@
 use Rattle.std.proofs.Common.{◌≡◌, length}
 use Rattle.pddl_parser.specs.Grammar.{no_problem_sections}
-use Rattle.pddl_parser.specs.SectionReading.{problem_sections}
+use Rattle.pddl_parser.specs.Inner.SectionReading.{problem_sections}
 use Rattle.pddl_parser.proofs.problem_sections.sections_of.Given as goal
 
 abbrev pub invariant-loop-alloc : goal.invariant-loop-alloc

@@ -1,6 +1,6 @@
 use Rattle.std.proofs.Common.{◌+◌, nat_lt, Bool, List, ◌∷◌, ◌++◌, drop, ap, sym, ◌∙◌}
 use Rattle.std.proofs.lemmas.List.{append-nil, drop_all}
-use Rattle.pddl_parser.specs.declared.texts.Typed.{Typed}
+use Rattle.pddl_forms.specs.declared.texts.Typed.{Typed}
 use Rattle.pddl_printer.specs.Printing.{spaced, type_words, typed_words}
 use Rattle.pddl_printer.proofs.Spaced.{goes_on, drop-here}
 use Rattle.pddl_printer.proofs.words.typed_list.Goals as goal

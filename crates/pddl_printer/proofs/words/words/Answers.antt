@@ -1,6 +1,6 @@
 use Rattle.std.proofs.Common.{◌+◌, List, [], ◌∷◌, ◌++◌, drop, ap, sym, ◌∙◌}
 use Rattle.std.proofs.lemmas.List.{append-nil, drop_all}
-use Rattle.pddl_parser.specs.declared.texts.Word.{Word}
+use Rattle.pddl_forms.specs.declared.texts.Word.{Word}
 use Rattle.pddl_printer.specs.Printing.{spaced, texts_of}
 use Rattle.pddl_printer.proofs.Spaced.{goes_on, drop-here}
 use Rattle.pddl_printer.proofs.words.words.Goals as goal

@@ -1,0 +1,12 @@
+pub mod Branches
+pub mod ConjunctionReaders
+pub mod ConjunctionRules
+pub mod Conjunctions
+pub mod Exact
+pub mod Fronts
+pub mod ItemSteps
+pub mod OneLexeme
+pub mod Readers
+pub mod TypedReaders
+pub mod TypedRules
+pub mod TypedSteps

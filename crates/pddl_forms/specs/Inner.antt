@@ -1,0 +1,4 @@
+pub mod Reading
+pub mod TypedReading
+pub mod GroupReading
+pub mod Leaving

@@ -1,0 +1,4 @@
+pub mod Lexemes
+pub mod Forms
+pub mod Offending
+pub mod Inner

@@ -1,5 +1,0 @@
-use Rattle.pddl_parser.proofs.Exact.{term_shrinks}
-use Rattle.pddl_parser.proofs.formulas.arguments.Goals as goal
-
-pub items-requires : goal.items-requires
-items-requires c = term_shrinks c.args.terms

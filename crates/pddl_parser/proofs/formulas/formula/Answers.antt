@@ -1,5 +1,0 @@
-use Rattle.pddl_parser.proofs.ConjunctionRules.{atom_body_stays}
-use Rattle.pddl_parser.proofs.formulas.formula.Goals as goal
-
-pub conjunction-requires : goal.conjunction-requires
-conjunction-requires c = atom_body_stays c.args.terms
