@@ -4,13 +4,13 @@ use Rattle.std.specs.Prelude.{Contains}
 use Rattle.std.proofs.lemmas.Bool.Decides.{nat_tests}
 use Rattle.std.proofs.lemmas.List.{take_all}
 use Rattle.std.proofs.lemmas.Option.{slice_get_within}
-use Rattle.pddl_parser.specs.declared.texts.Word.{Word}
+use Rattle.pddl_forms.specs.declared.texts.Word.{Word}
 use Rattle.pddl_task.specs.declared.fault.Fault.{Fault}
-use Rattle.pddl_task.specs.declared.fault.Kind.TheVariants.{Twice}
+use Rattle.pddl_task.specs.declared.fault.FaultKind.TheVariants.{Twice}
 use Rattle.pddl_task.specs.Names.{with_names, is_among}
 use Rattle.pddl_task.specs.Types.{text_of}
 use Rattle.pddl_task.specs.Faults.{IsFirst, IsTwice, fault_at}
-use Rattle.pddl_task.specs.Workings.{earlier_of}
+use Rattle.pddl_task.specs.Inner.Faults.{earlier_of}
 use Rattle.pddl_task.proofs.Among.{among_all, is_there, is_absent}
 use Rattle.pddl_task.proofs.First.{first_both, first_same, first_one}
 use Rattle.pddl_task.proofs.Mapped.{map-append}
@@ -68,6 +68,11 @@ module _ (names : List (List ℕ)) (ws : List Word) (w : Word) (f : Fault) where
 again_first : (names : List (List ℕ)) (w : Word) (b : Bool) → is_among w.text names ≡ b → IsFirst (IsAgain names w) (if b then Some (fault_at Twice w) else None)
 again_first names w true among = first_one (IsAgain names w) (fault_at Twice w) (is_there w.text names among, refl) (λ g has. has.1)
 again_first names w false among = λ f has. is_absent w.text names among has.0
+
+-- what is told of a word among names, where the word is an item's and the names are those before it
+pub told_again : (o : Option Fault) (w v : Word) (seen names : List (List ℕ)) → o ≡ (if is_among v.text seen then Some (fault_at Twice v) else None) → v ≡ w → seen ≡ names
+    → o ≡ (if is_among w.text names then Some (fault_at Twice w) else None)
+told_again o w v seen names told same before = rw (same, before) at told
 
 -- the first of some words that stands again, where one more follows
 pub first_again : (names : List (List ℕ)) (ws : List Word) (w : Word) (a : Option Fault) → IsFirst (IsTwice names ws) a

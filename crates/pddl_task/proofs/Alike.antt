@@ -2,14 +2,14 @@
 use Rattle.std.proofs.Common.{◌≡◌, ℕ, List, [], ◌++◌, map, take, Option, ◌||◌, refl, sym, ap₂, ◌∙◌, inl, inr, bytes_eq}
 use Rattle.std.specs.Prelude.{Any, Contains}
 use Rattle.std.proofs.lemmas.List.Folds.{list_any-append}
-use Rattle.pddl_parser.specs.declared.texts.Word.{Word}
-use Rattle.pddl_parser.specs.declared.texts.AtomText.{AtomText}
+use Rattle.pddl_forms.specs.declared.texts.Word.{Word}
+use Rattle.pddl_forms.specs.declared.texts.AtomText.{AtomText}
 use Rattle.pddl_parser.specs.declared.texts.ActionText.{ActionText}
 use Rattle.pddl_task.specs.declared.fault.Fault.{Fault}
 use Rattle.pddl_task.specs.Names.{is_among}
 use Rattle.pddl_task.specs.Types.{text_of, names_of}
 use Rattle.pddl_task.specs.Faults.{IsFirst, IsTwice, IsUnknownName, IsAtomFault, IsActionFault}
-use Rattle.pddl_task.specs.Workings.{different}
+use Rattle.pddl_task.specs.Inner.Names.{different}
 use Rattle.pddl_task.proofs.Among.{among_all, is_there, is_found}
 use Rattle.pddl_task.proofs.Anys.{any_weaker}
 use Rattle.pddl_task.proofs.First.{first_same}

@@ -6,7 +6,8 @@ use Rattle.std.proofs.lemmas.List.{get_or-map, length-map}
 use Rattle.indexmap.proofs.IndexTableLemmas.Probe.{pigeonhole}
 use Rattle.ground_state.specs.declared.parts.TypeEntry.{TypeEntry}
 use Rattle.ground_state.specs.Task.{ancestor}
-use Rattle.pddl_task.specs.Workings.{AreTops}
+use Rattle.ground_state.proofs.Typing.{steps_from_Reaches, Reaches-from_steps}
+use Rattle.pddl_task.specs.Inner.Faults.{AreTops}
 
 -- the parents of types
 abbrev pub parents : List TypeEntry → List ℕ
@@ -110,7 +111,7 @@ pub tops_are : (types : List TypeEntry) → All (λ (entry : TypeEntry). entry.p
 tops_are types all root above steps long are enough = (
   long,
   λ number within. (
-    (λ zero_above. (steps, sym (are number within) ∙ zero_above)),
-    λ reaches. are number within ∙ reaches_soon types root (low_parents types all) number reaches.0 steps within enough reaches.1,
+    (λ zero_above. Reaches-from_steps types steps number 0 all within (sym (are number within) ∙ zero_above)),
+    λ reaches. let up = steps_from_Reaches reaches in are number within ∙ reaches_soon types root (low_parents types all) number up.0 steps within enough up.1,
   ),
 )

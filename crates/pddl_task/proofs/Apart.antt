@@ -3,7 +3,7 @@ use Rattle.std.proofs.Common.{◌≡◌, ℕ, Bool, true, false, ◌+◌, List, 
 use Rattle.std.specs.Prelude.{Contains}
 use Rattle.std.proofs.lemmas.List.{get_or_append_left, get_or-append-add, append-nil}
 use Rattle.pddl_task.specs.Names.{with_name, with_names, is_among}
-use Rattle.pddl_task.specs.Workings.{AreApart, different}
+use Rattle.pddl_task.specs.Inner.Names.{AreApart, different}
 use Rattle.pddl_task.proofs.Among.{is_there}
 
 -- a name that stands behind names from which it differs is not among them

@@ -3,8 +3,8 @@ use Rattle.std.proofs.Common.{◌≡◌, ℕ, ◌<◌, Bool, true, false, cond, 
 use Rattle.std.proofs.lemmas.List.{length-map}
 use Rattle.std.proofs.lemmas.List.Elements.{All-map, All-weaker}
 use Rattle.std.proofs.lemmas.List.Folds.{list_any-append}
-use Rattle.pddl_parser.specs.declared.texts.Word.{Word}
-use Rattle.pddl_parser.specs.declared.texts.AtomText.{AtomText}
+use Rattle.pddl_forms.specs.declared.texts.Word.{Word}
+use Rattle.pddl_forms.specs.declared.texts.AtomText.{AtomText}
 use Rattle.pddl_parser.specs.declared.texts.PredText.{PredText}
 use Rattle.ground_state.specs.declared.parts.PredicateEntry.{PredicateEntry}
 use Rattle.ground_state.specs.declared.parts.TaskParts.{TaskParts}

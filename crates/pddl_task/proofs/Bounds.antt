@@ -5,7 +5,7 @@ use Rattle.std.specs.Option.{option_or}
 use Rattle.std.proofs.lemmas.Bool.Decides.{nat_tests}
 use Rattle.std.proofs.lemmas.List.{length-map}
 use Rattle.std.proofs.lemmas.List.Elements.{All-nil, All-cons}
-use Rattle.pddl_parser.specs.declared.texts.Typed.{Typed}
+use Rattle.pddl_forms.specs.declared.texts.Typed.{Typed}
 use Rattle.pddl_parser.specs.declared.texts.PredText.{PredText}
 use Rattle.pddl_parser.specs.declared.texts.ActionText.{ActionText}
 use Rattle.pddl_parser.specs.declared.texts.DomainText.{DomainText}
@@ -19,7 +19,8 @@ use Rattle.pddl_task.specs.Names.{with_name, with_names, is_among}
 use Rattle.pddl_task.specs.Types.{root, text_of, word_of, names_of, mentioned, type_names}
 use Rattle.pddl_task.specs.Faults.{head_of, IsFirst, IsDomainFault, actions_limit, predicates_limit, count_limit, objects_limit, domain_limit, problem_limit}
 use Rattle.pddl_task.specs.Parts.{heads_of}
-use Rattle.pddl_task.specs.Workings.{IsSchemaText, different}
+use Rattle.pddl_task.specs.Inner.Names.{different}
+use Rattle.pddl_task.specs.Inner.Actions.{IsSchemaText}
 use Rattle.pddl_task.proofs.Faultless.{sound_domain}
 
 -- where no item is told to be too many, none is

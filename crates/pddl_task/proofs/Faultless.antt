@@ -5,19 +5,20 @@ use Rattle.std.proofs.lemmas.Bool.Decides.{nat_tests}
 use Rattle.std.proofs.lemmas.List.{get_or_default, append-nil, length-map}
 use Rattle.std.proofs.lemmas.List.Quantifiers.{all_pairs_push}
 use Rattle.ground_state.specs.Task.{Reaches, ancestor}
-use Rattle.pddl_parser.specs.declared.texts.Word.{Word}
-use Rattle.pddl_parser.specs.declared.texts.Typed.{Typed}
-use Rattle.pddl_parser.specs.declared.texts.AtomText.{AtomText}
+use Rattle.ground_state.proofs.Typing.{steps_from_Reaches, Reaches-from_steps}
+use Rattle.pddl_forms.specs.declared.texts.Word.{Word}
+use Rattle.pddl_forms.specs.declared.texts.Typed.{Typed}
+use Rattle.pddl_forms.specs.declared.texts.AtomText.{AtomText}
 use Rattle.pddl_parser.specs.declared.texts.ActionText.{ActionText}
 use Rattle.pddl_parser.specs.declared.texts.DomainText.{DomainText}
 use Rattle.pddl_parser.specs.declared.texts.ProblemText.{ProblemText}
 use Rattle.pddl_task.specs.declared.fault.Fault.{Fault}
-use Rattle.pddl_task.specs.declared.fault.Kind.TheVariants.{Twice, Unknown, Arity, TypeCycle}
+use Rattle.pddl_task.specs.declared.fault.FaultKind.TheVariants.{Twice, Unknown, Arity, TypeCycle}
 use Rattle.pddl_task.specs.Names.{number_of, is_among}
 use Rattle.pddl_task.specs.Types.{root, text_of, word_of, names_of, type_of, type_names, types_of, entry_of}
-use Rattle.pddl_task.specs.Faults.{head_of, own_of, fault_at, IsFirst, IsTwice, IsTypeCycle, IsUnknownType, IsUnknownName, IsHeadFault, IsAtomFault, IsActionFault, IsDomainFault, type_twice, constant_twice, predicate_twice, action_twice, type_astray, of_constant, of_action, IsProblemFault, object_twice, of_object, of_atom, arity_named}
+use Rattle.pddl_task.specs.Faults.{head_of, action_word, fault_at, IsFirst, IsTwice, IsTypeCycle, IsUnknownType, IsUnknownName, IsHeadFault, IsAtomFault, IsActionFault, IsDomainFault, type_twice, constant_twice, predicate_twice, action_twice, type_astray, of_constant, of_action, IsProblemFault, object_twice, of_object, of_atom, arity_named}
 use Rattle.pddl_task.specs.Parts.{heads_of}
-use Rattle.pddl_task.specs.Workings.{AreApart}
+use Rattle.pddl_task.specs.Inner.Names.{AreApart}
 use Rattle.pddl_task.proofs.Among.{is_absent}
 use Rattle.pddl_task.proofs.Ancestors.{low_parents, reaches_soon}
 use Rattle.pddl_task.proofs.Anys.{any_left, any_right}
@@ -129,9 +130,10 @@ under_root : (types : List Typed) (number : ℕ) → number < length (types_of t
 under_root types number within not_not = by (ancestor (types_of types) (length (types_of types)) number == 0) refl
   where
     by : (b : Bool) → (ancestor (types_of types) (length (types_of types)) number == 0) ≡ b → Reaches (types_of types) number 0
-    by true is = (length (types_of types), grind (arith, nat_tests))
+    by true is = Reaches-from_steps (types_of types) (length (types_of types)) number 0 (parents_are_types types) within (grind (arith, nat_tests))
     by false is = absurd (not_not (λ reaches.
-        let soon : ancestor (types_of types) (length (types_of types)) number ≡ 0 = reaches_soon (types_of types) (root_parent_zero types) (low_parents (types_of types) (parents_are_types types)) number reaches.0 (length (types_of types)) within (omega arith) reaches.1 in
+        let up = steps_from_Reaches reaches in
+        let soon : ancestor (types_of types) (length (types_of types)) number ≡ 0 = reaches_soon (types_of types) (root_parent_zero types) (low_parents (types_of types) (parents_are_types types)) number up.0 (length (types_of types)) within (omega arith) up.1 in
         grind (arith, nat_tests)))
 
 all_under : (types : List Typed) → ((f : Fault) → Any (IsTypeCycle types f) types → ⊥) → All (IsUnder types) types
@@ -147,7 +149,7 @@ pub record IsSoundDomain (domain : DomainText) : Type 0 where
   pub types : AreApart (names_of domain.types)
   pub constants : AreApart (names_of domain.constants)
   pub heads : AreApart (heads_of domain.predicates)
-  pub actions : AreApart (map text_of (map own_of domain.actions))
+  pub actions : AreApart (map text_of (map action_word domain.actions))
   pub under : All (IsUnder domain.types) domain.types
   pub typed : All (IsTypedIn (type_names domain.types)) domain.constants
   pub each : All (IsSoundAction (type_names domain.types) (arity_named domain.predicates) (names_of domain.constants)) domain.actions
@@ -157,7 +159,7 @@ sound_domain domain free = record {
   types = all_apart (map word_of domain.types) (λ f has. free f (type_twice has));
   constants = constants;
   heads = all_apart (map head_of domain.predicates) (λ f has. free f (predicate_twice has));
-  actions = all_apart (map own_of domain.actions) (λ f has. free f (action_twice has));
+  actions = all_apart (map action_word domain.actions) (λ f has. free f (action_twice has));
   under = all_under domain.types (λ f has. free f (type_astray has));
   typed = typed_all (type_names domain.types) (root_there domain.types) domain.constants (λ f has. free f (of_constant has));
   each = each_then (IsActionFault (type_names domain.types) (arity_named domain.predicates) (names_of domain.constants)) (IsSoundAction (type_names domain.types) (arity_named domain.predicates) (names_of domain.constants)) domain.actions

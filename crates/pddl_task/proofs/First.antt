@@ -5,7 +5,7 @@ use Rattle.std.proofs.lemmas.Bool.Decides.{nat_tests}
 use Rattle.std.proofs.lemmas.List.{take_all}
 use Rattle.pddl_task.specs.declared.fault.Fault.{Fault}
 use Rattle.pddl_task.specs.Faults.{IsFirst, comes_before, rank_of}
-use Rattle.pddl_task.specs.Workings.{earlier_of}
+use Rattle.pddl_task.specs.Inner.Faults.{earlier_of}
 use Rattle.pddl_task.proofs.Anys.{any_here, any_none, any_one, any_split, any_left, any_right}
 use Rattle.pddl_task.proofs.NamesOf.{one_more}
 

@@ -5,7 +5,6 @@ pub mod Ancestors
 pub mod Anys
 pub mod Apart
 pub mod ArityTables
-pub mod Astray
 pub mod AtomsFit
 pub mod Bounds
 pub mod Composed
@@ -22,6 +21,7 @@ pub mod ObjectsFit
 pub mod OneAnswer
 pub mod ParentNumbers
 pub mod Refusals
+pub mod Rootless
 pub mod StillApart
 pub mod TaskFits
 pub mod TypeNames

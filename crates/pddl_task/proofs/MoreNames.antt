@@ -4,7 +4,7 @@ use Rattle.std.specs.Prelude.{All}
 use Rattle.std.proofs.lemmas.List.Elements.{All-head, All-tail, All-push}
 use Rattle.std.proofs.lemmas.Slice.Eq.{bytes_eq-Decides}
 use Rattle.pddl_task.specs.Names.{with_name, with_names, number_of, is_among}
-use Rattle.pddl_task.specs.Workings.{AreApart}
+use Rattle.pddl_task.specs.Inner.Names.{AreApart}
 
 pub each_with : (P : List ℕ → Type 0) (names others : List (List ℕ)) → All P names → All P others → All P (with_names names others)
 each_with P names [] each more = each

@@ -4,15 +4,15 @@ use Rattle.std.specs.Prelude.{All}
 use Rattle.std.proofs.lemmas.List.{length-map}
 use Rattle.std.proofs.lemmas.List.Elements.{All-map, All-weaker}
 use Rattle.flag_rules.specs.Name.{IsName}
-use Rattle.pddl_parser.specs.declared.texts.Word.{Word}
-use Rattle.pddl_parser.specs.declared.texts.Typed.{Typed}
+use Rattle.pddl_forms.specs.declared.texts.Word.{Word}
+use Rattle.pddl_forms.specs.declared.texts.Typed.{Typed}
 use Rattle.pddl_parser.specs.Spelled.{IsTypedSpelled}
 use Rattle.ground_state.specs.declared.parts.ObjectEntry.{ObjectEntry}
 use Rattle.ground_state.specs.declared.parts.TheConstants.{MAX_OBJECTS}
 use Rattle.ground_state.specs.Task.{AreObjects}
 use Rattle.pddl_task.specs.Types.{text_of, word_of, names_of, type_of, type_names, type_number, types_of}
 use Rattle.pddl_task.specs.Parts.{object_of}
-use Rattle.pddl_task.specs.Workings.{AreApart}
+use Rattle.pddl_task.specs.Inner.Names.{AreApart}
 use Rattle.pddl_task.proofs.Composed.{map-map}
 use Rattle.pddl_task.proofs.Faultless.{IsTypedIn}
 use Rattle.pddl_task.proofs.TypeParents.{number_there}

@@ -1,4 +1,4 @@
--- There is one answer to each text.
+-- There is at most one answer to each text.
 use Rattle.std.proofs.Common.{◌≡◌, ℕ, ◌==◌, ◌&&◌, ◌||◌, nat_lt, Bool, false, cond, Option, Some, None, refl, sym, ap, ◌∙◌, inl, inr, arith}
 use Rattle.std.specs.Prelude.{Result, Ok, Err}
 use Rattle.std.proofs.lemmas.Bool.Decides.{nat_tests}
@@ -8,18 +8,18 @@ use Rattle.pddl_parser.specs.declared.texts.ProblemText.{ProblemText}
 use Rattle.ground_state.specs.declared.parts.TaskParts.{TaskParts}
 use Rattle.ground_state.specs.declared.parts.InstanceParts.{InstanceParts}
 use Rattle.pddl_task.specs.declared.fault.Fault.{Fault}
-use Rattle.pddl_task.specs.declared.fault.Kind.{Kind}
-use Rattle.pddl_task.specs.declared.fault.Kind.TheVariants.{Twice, Unknown, Arity, TypeCycle, OtherDomain}
+use Rattle.pddl_task.specs.declared.fault.FaultKind.{FaultKind}
+use Rattle.pddl_task.specs.declared.fault.FaultKind.TheVariants.{Twice, Unknown, Arity, TypeCycle, OtherDomain}
 use Rattle.pddl_task.specs.declared.refusal.TaskRefusal.{TaskRefusal}
 use Rattle.pddl_task.specs.Faults.{IsFirst, rank_of, refusal_of, IsDomainFault, IsProblemFault, domain_limit, problem_limit}
 use Rattle.pddl_task.specs.Parts.{TaskOf, InstanceOf}
 use Rattle.pddl_task.specs.Replies.{IsRefusal, HasReply, HasTaskReply, HasInstanceReply}
 
 -- the kind of a place in the order
-kind_of : ℕ → Kind
+kind_of : ℕ → FaultKind
 kind_of rank = cond (rank == 0) Twice (cond (rank == 1) Unknown (cond (rank == 2) Arity (cond (rank == 3) TypeCycle OtherDomain)))
 
-of_rank : (kind : Kind) → kind_of (rank_of kind) ≡ kind
+of_rank : (kind : FaultKind) → kind_of (rank_of kind) ≡ kind
 unfolding kind_of
 of_rank Twice = refl
 of_rank Unknown = refl
@@ -27,10 +27,10 @@ of_rank Arity = refl
 of_rank TypeCycle = refl
 of_rank OtherDomain = refl
 
-same_kind : (one other : Kind) → rank_of one ≡ rank_of other → one ≡ other
+same_kind : (one other : FaultKind) → rank_of one ≡ rank_of other → one ≡ other
 same_kind one other same = sym (of_rank one) ∙ ap kind_of same ∙ of_rank other
 
-abbrev fault_with : Kind → ℕ → Fault
+abbrev fault_with : FaultKind → ℕ → Fault
 fault_with kind at = record { kind = kind; at = at }
 
 abbrev before : ℕ → ℕ → ℕ → ℕ → Bool
@@ -39,7 +39,7 @@ before a r b s = nat_lt a b || (a == b && nat_lt r s)
 same_place : (a r b s : ℕ) → before a r b s ≡ false → before b s a r ≡ false → (a ≡ b) × (r ≡ s)
 same_place a r b s one other = (grind (arith, nat_tests), grind (arith, nat_tests))
 
--- there is one first fault
+-- there is at most one first fault
 one_first : (P : Fault → Type 0) (f g : Fault) → IsFirst P (Some f) → IsFirst P (Some g) → f ≡ g
 one_first P f g one other =
     let same = same_place f.at (rank_of f.kind) g.at (rank_of g.kind) (other.1 f one.0) (one.1 g other.0) in

@@ -2,10 +2,10 @@
 use Rattle.std.proofs.Common.{◌≡◌, ℕ, zero, suc, Bool, true, false, cond, find, Some, option_map, unwrap_or, ◌∷◌, ◌<◌, ◌≤◌, ◌+◌, ◌-◌, List, [], length, map, set, drop, get_or, replicate, flat_map, if◌then◌else◌, bytes_eq, refl, sym, ap, subst, ◌∙◌, arith}
 use Rattle.std.proofs.lemmas.List.{drop_all, length-map}
 use Rattle.std.proofs.lemmas.Simd.{splat_is_map}
-use Rattle.pddl_parser.specs.declared.texts.Typed.{Typed}
+use Rattle.pddl_forms.specs.declared.texts.Typed.{Typed}
 use Rattle.pddl_task.specs.Names.{number_of, is_among}
 use Rattle.pddl_task.specs.Types.{root, mentioned, type_of, type_names, type_number, given_parent, parent_of}
-use Rattle.pddl_task.specs.Workings.{AreApart}
+use Rattle.pddl_task.specs.Inner.Names.{AreApart}
 use Rattle.pddl_task.proofs.StillApart.{types_apart}
 use Rattle.pddl_task.proofs.TypeParents.{begins, number_there, word_there}
 use Rattle.pddl_task.proofs.Written.{turned, but_one, written}

@@ -2,10 +2,10 @@
 use Rattle.std.proofs.Common.{◌≡◌, ◌≢◌, ℕ, Bool, true, false, List, [], ◌∷◌, ◌++◌, flat_map, if◌then◌else◌, refl, ◌∙◌, arith}
 use Rattle.std.proofs.lemmas.List.{get_or_default}
 use Rattle.std.proofs.lemmas.List.Quantifiers.{all_pairs_push}
-use Rattle.pddl_parser.specs.declared.texts.Typed.{Typed}
+use Rattle.pddl_forms.specs.declared.texts.Typed.{Typed}
 use Rattle.pddl_task.specs.Names.{with_name, with_names, is_among}
 use Rattle.pddl_task.specs.Types.{root, mentioned, type_names}
-use Rattle.pddl_task.specs.Workings.{AreApart}
+use Rattle.pddl_task.specs.Inner.Names.{AreApart}
 use Rattle.pddl_task.proofs.Among.{is_absent}
 
 one_more_apart : (names : List (List ℕ)) (name : List ℕ) → AreApart names → AreApart (with_name names name)

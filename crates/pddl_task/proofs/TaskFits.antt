@@ -4,8 +4,8 @@ use Rattle.std.specs.Prelude.{All}
 use Rattle.std.proofs.lemmas.List.{length-map}
 use Rattle.std.proofs.lemmas.List.Elements.{All-map, All-weaker}
 use Rattle.flag_rules.specs.Name.{IsName}
-use Rattle.pddl_parser.specs.declared.texts.Word.{Word}
-use Rattle.pddl_parser.specs.declared.texts.AtomText.{AtomText}
+use Rattle.pddl_forms.specs.declared.texts.Word.{Word}
+use Rattle.pddl_forms.specs.declared.texts.AtomText.{AtomText}
 use Rattle.pddl_parser.specs.declared.texts.PredText.{PredText}
 use Rattle.pddl_parser.specs.declared.texts.ActionText.{ActionText}
 use Rattle.pddl_parser.specs.declared.texts.DomainText.{DomainText}
@@ -18,7 +18,7 @@ use Rattle.ground_state.specs.declared.parts.TaskParts.{TaskParts}
 use Rattle.ground_state.specs.declared.parts.TheConstants.{MAX_ARITY, MAX_PARAMETERS}
 use Rattle.ground_state.specs.Task.{IsTask, ArePredicates, AreSchemas, IsSchema, AreLifted, IsLifted}
 use Rattle.pddl_task.specs.Types.{text_of, names_of, type_names, type_number, types_of}
-use Rattle.pddl_task.specs.Faults.{head_of, own_of, arity_named}
+use Rattle.pddl_task.specs.Faults.{head_of, action_word, arity_named}
 use Rattle.pddl_task.specs.Parts.{TaskOf, task_of, predicate_of, schema_of, lifted_of, heads_of}
 use Rattle.pddl_task.proofs.AtomsFit.{lifted_fits}
 use Rattle.pddl_task.proofs.Bounds.{IsWithinLimits, HasFewAtoms, domain_limits, predicates_few, actions_few, atoms_few}
@@ -70,12 +70,12 @@ module _ (domain : DomainText) (read : IsDomainText domain) (sound : IsSoundDoma
   schemas_fit : AreSchemas (task_of domain) (task_of domain).schemas
   schemas_fit =
       let schema = schema_of (type_names domain.types) (heads_of domain.predicates) (names_of domain.constants) in
-      let names : map (λ (entry : SchemaEntry). entry.name) (task_of domain).schemas ≡ map text_of (map own_of domain.actions) =
-      map-map (λ (entry : SchemaEntry). entry.name) schema domain.actions ∙ sym (map-map text_of own_of domain.actions) in
+      let names : map (λ (entry : SchemaEntry). entry.name) (task_of domain).schemas ≡ map text_of (map action_word domain.actions) =
+      map-map (λ (entry : SchemaEntry). entry.name) schema domain.actions ∙ sym (map-map text_of action_word domain.actions) in
       record {
         few = rw length-map (actions_few domain read);
         names = rw names (record {
-          each = All-map IsName text_of (map own_of domain.actions) (All-map (λ (word : Word). IsName word.text) own_of domain.actions
+          each = All-map IsName text_of (map action_word domain.actions) (All-map (λ (word : Word). IsName word.text) action_word domain.actions
               (All-weaker IsActionSpelled (λ (action : ActionText). IsName action.name.text) (λ action of. of.own) domain.actions (domain-spelled domain read).actions));
           differ = sound.actions;
         });

@@ -2,7 +2,7 @@
 use Rattle.std.proofs.Common.{◌≡◌, ℕ, ◌<◌, ◌+◌, List, [], ◌∷◌, length, take, get_or, flat_map, ap, ◌∙◌}
 use Rattle.std.proofs.lemmas.List.Concat.{flat_map-append}
 use Rattle.std.proofs.lemmas.List.Sums.{fold-append}
-use Rattle.pddl_parser.specs.declared.texts.Typed.{Typed}
+use Rattle.pddl_forms.specs.declared.texts.Typed.{Typed}
 use Rattle.pddl_task.specs.Names.{with_name, with_names}
 use Rattle.pddl_task.specs.Types.{root, mentioned, type_of}
 use Rattle.pddl_task.proofs.NamesOf.{one_more}

@@ -4,7 +4,7 @@ use Rattle.std.specs.Prelude.{All}
 use Rattle.std.proofs.lemmas.List.{length-map, get_or-map}
 use Rattle.std.proofs.lemmas.Slice.Eq.{bytes_eq-Decides}
 use Rattle.ground_state.specs.declared.parts.TypeEntry.{TypeEntry}
-use Rattle.pddl_parser.specs.declared.texts.Typed.{Typed}
+use Rattle.pddl_forms.specs.declared.texts.Typed.{Typed}
 use Rattle.pddl_task.specs.Names.{with_names, number_of, is_among}
 use Rattle.pddl_task.specs.Types.{root, mentioned, type_of, type_names, given_parent, parent_of, entry_of, types_of}
 use Rattle.pddl_task.proofs.Among.{among_all}

@@ -5,14 +5,15 @@ use Rattle.std.proofs.lemmas.List.{length-map}
 use Rattle.std.proofs.lemmas.List.Elements.{All-nil, All-cons, All-head, All-tail}
 use Rattle.std.proofs.lemmas.Slice.Eq.{bytes_eq-Decides}
 use Rattle.flag_rules.specs.Name.{IsName}
-use Rattle.pddl_parser.specs.declared.texts.Word.{Word}
-use Rattle.pddl_parser.specs.declared.texts.Typed.{Typed}
+use Rattle.pddl_forms.specs.declared.texts.Word.{Word}
+use Rattle.pddl_forms.specs.declared.texts.Typed.{Typed}
 use Rattle.pddl_parser.specs.declared.texts.DomainText.{DomainText}
 use Rattle.pddl_parser.specs.Replies.{IsDomainText}
 use Rattle.pddl_parser.specs.Spelled.{IsTypedSpelled}
 use Rattle.pddl_parser.proofs.Readable.{domain-spelled}
 use Rattle.ground_state.specs.declared.parts.TypeEntry.{TypeEntry}
 use Rattle.ground_state.specs.Task.{AreTypes, Reaches}
+use Rattle.ground_state.proofs.Typing.{Reaches-from_steps}
 use Rattle.pddl_task.specs.Names.{number_of}
 use Rattle.pddl_task.specs.Types.{root, text_of, mentioned, type_of, type_names, given_parent, parent_of, entry_of, types_of}
 use Rattle.pddl_task.proofs.Bounds.{types_few}
@@ -63,12 +64,11 @@ module _ (types : List Typed) (number : ℕ) (within : number < length (types_of
   -- a type whose name is no word of `:types` stands under `object`
   under_root : find is_named types ≡ None → Reaches (types_of types) number 0
   under_root absent =
-      let given : given_parent types name ≡ root = ap (λ o. unwrap_or (option_map type_of o) root) absent in (
-        1,
-        parent_at types (type_names types) number (subst (λ n. number < n) (types_long types) within)
-            ∙ ap (number_of (type_names types)) (root_alone types name given)
-            ∙ ap (λ names. number_of names root) (begins root [] (flat_map mentioned types)).1,
-      )
+      let given : given_parent types name ≡ root = ap (λ o. unwrap_or (option_map type_of o) root) absent in
+      Reaches-from_steps (types_of types) 1 number 0 (parents_are_types types) within
+      (parent_at types (type_names types) number (subst (λ n. number < n) (types_long types) within)
+      ∙ ap (number_of (type_names types)) (root_alone types name given)
+      ∙ ap (λ names. number_of names root) (begins root [] (flat_map mentioned types)).1)
 
   -- every type does, where the words of `:types` do
   reaches_root : All (IsUnder types) types → Reaches (types_of types) number 0

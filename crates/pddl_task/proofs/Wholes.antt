@@ -1,20 +1,20 @@
 -- The first fault of an action, of a domain and of a problem, from those of each kind.
 use Rattle.std.proofs.Common.{◌≡◌, ◌≢◌, ℕ, List, [], ◌++◌, map, Option, ◌⊎◌, inl, inr}
 use Rattle.std.specs.Prelude.{Any}
-use Rattle.pddl_parser.specs.declared.texts.Typed.{Typed}
-use Rattle.pddl_parser.specs.declared.texts.AtomText.{AtomText}
+use Rattle.pddl_forms.specs.declared.texts.Typed.{Typed}
+use Rattle.pddl_forms.specs.declared.texts.AtomText.{AtomText}
 use Rattle.pddl_parser.specs.declared.texts.ActionText.{ActionText}
 use Rattle.pddl_parser.specs.declared.texts.PredText.{PredText}
 use Rattle.pddl_parser.specs.declared.texts.DomainText.{DomainText}
 use Rattle.pddl_parser.specs.declared.texts.ProblemText.{ProblemText}
-use Rattle.pddl_task.specs.declared.fault.Kind.TheVariants.{OtherDomain}
+use Rattle.pddl_task.specs.declared.fault.FaultKind.TheVariants.{OtherDomain}
 use Rattle.pddl_task.specs.declared.arities.Arities.{Arities}
 use Rattle.pddl_task.specs.declared.fault.Fault.{Fault}
-use Rattle.pddl_task.specs.Arities.{AreAritiesOf, arity_in}
+use Rattle.pddl_task.specs.Inner.Arities.{AreAritiesOf, arity_in}
 use Rattle.pddl_task.specs.Types.{word_of, names_of, type_names}
-use Rattle.pddl_task.specs.Faults.{head_of, own_of, IsTypeCycle, IsUnknownParameter, IsDomainFault, type_twice, constant_twice, predicate_twice, action_twice, type_astray, of_constant, of_predicate, of_action}
-use Rattle.pddl_task.specs.Faults.{IsFirst, IsTwice, IsUnknownType, IsAtomFault, IsActionFault, IsProblemFault, object_twice, of_object, of_atom, other_domain, arity_named, fault_at}
-use Rattle.pddl_task.specs.Workings.{earlier_of, different}
+use Rattle.pddl_task.specs.Faults.{head_of, action_word, IsTypeCycle, IsUnknownParameter, IsDomainFault, type_twice, constant_twice, predicate_twice, action_twice, type_astray, of_constant, of_predicate, of_action, IsFirst, IsTwice, IsUnknownType, IsAtomFault, IsActionFault, IsProblemFault, object_twice, of_object, of_atom, other_domain, arity_named, fault_at}
+use Rattle.pddl_task.specs.Inner.Names.{different}
+use Rattle.pddl_task.specs.Inner.Faults.{earlier_of}
 use Rattle.pddl_task.proofs.Alike.{alike_different, alike_joined, first_of_atoms_over, first_of_actions_over, first_twice_over}
 use Rattle.pddl_task.proofs.First.{first_both, first_appended, first_same}
 
@@ -105,7 +105,7 @@ module _ (domain : DomainText) (f : Fault) where
       IsTwice [] (map word_of domain.types) f
       ⊎ (IsTwice [] (map word_of domain.constants) f
       ⊎ (IsTwice [] (map head_of domain.predicates) f
-      ⊎ (IsTwice [] (map own_of domain.actions) f
+      ⊎ (IsTwice [] (map action_word domain.actions) f
       ⊎ (Any (IsTypeCycle domain.types f) domain.types
       ⊎ (Any (IsUnknownType (type_names domain.types) f) domain.constants
       ⊎ (Any (IsUnknownParameter (type_names domain.types) f) domain.predicates
@@ -135,13 +135,13 @@ module _ (domain : DomainText) (f : Fault) where
 pub domain_rows : (domain : DomainText) (none none_2 none_3 none_4 constants types : List (List ℕ)) (arities : List ℕ → Option ℕ) (typed typed_2 constant_items : List Typed) (predicates : List PredText) (actions : List ActionText) (a b c d e f g h : Option Fault)
     → none ≡ [] → none_2 ≡ [] → none_3 ≡ [] → none_4 ≡ [] → constants ≡ different (names_of domain.constants) → types ≡ type_names domain.types → arities ≡ arity_named domain.predicates
     → typed ≡ domain.types → typed_2 ≡ domain.types → constant_items ≡ domain.constants → predicates ≡ domain.predicates → actions ≡ domain.actions
-    → IsFirst (IsTwice none (map word_of typed)) a → IsFirst (IsTwice none_2 (map word_of constant_items)) b → IsFirst (IsTwice none_3 (map head_of predicates)) c → IsFirst (IsTwice none_4 (map own_of actions)) d
+    → IsFirst (IsTwice none (map word_of typed)) a → IsFirst (IsTwice none_2 (map word_of constant_items)) b → IsFirst (IsTwice none_3 (map head_of predicates)) c → IsFirst (IsTwice none_4 (map action_word actions)) d
     → IsFirst (λ z. Any (IsTypeCycle typed_2 z) typed_2) e → IsFirst (λ z. Any (IsUnknownType types z) constant_items) f → IsFirst (λ z. Any (IsUnknownParameter types z) predicates) g
     → IsFirst (λ z. Any (IsActionFault types arities constants z) actions) h
     → IsFirst (IsDomainFault domain) (earlier_of a (earlier_of b (earlier_of c (earlier_of d (earlier_of e (earlier_of f (earlier_of g h)))))))
 domain_rows domain none none_2 none_3 none_4 constants types arities typed typed_2 constant_items predicates actions a b c d e f g h is_none is_none_2 is_none_3 is_none_4 is_constants is_types is_arities is_typed is_typed_2 is_items is_predicates is_actions is_a is_b is_c is_d is_e is_f is_g is_h =
     first_same (IsDomainRow domain) (IsDomainFault domain) (earlier_of a (earlier_of b (earlier_of c (earlier_of d (earlier_of e (earlier_of f (earlier_of g h))))))) (row_of_domain domain) (domain_row domain)
-    (first_of_eight (IsTwice [] (map word_of domain.types)) (IsTwice [] (map word_of domain.constants)) (IsTwice [] (map head_of domain.predicates)) (IsTwice [] (map own_of domain.actions))
+    (first_of_eight (IsTwice [] (map word_of domain.types)) (IsTwice [] (map word_of domain.constants)) (IsTwice [] (map head_of domain.predicates)) (IsTwice [] (map action_word domain.actions))
     (λ z. Any (IsTypeCycle domain.types z) domain.types) (λ z. Any (IsUnknownType (type_names domain.types) z) domain.constants) (λ z. Any (IsUnknownParameter (type_names domain.types) z) domain.predicates)
     (λ z. Any (IsActionFault (type_names domain.types) (arity_named domain.predicates) (names_of domain.constants) z) domain.actions)
     a b c d e f g h

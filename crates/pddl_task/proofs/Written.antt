@@ -2,7 +2,7 @@
 use Rattle.std.proofs.Common.{◌≡◌, ℕ, zero, suc, Bool, true, false, cond, not, ◌||◌, ◌+◌, List, [], ◌∷◌, map, set, if◌then◌else◌, bytes_eq, true≢false, refl, sym, ap, ◌∙◌, arith}
 use Rattle.std.proofs.lemmas.Slice.Eq.{bytes_eq-Decides}
 use Rattle.pddl_task.specs.Names.{number_of, is_among}
-use Rattle.pddl_task.specs.Workings.{AreApart}
+use Rattle.pddl_task.specs.Inner.Names.{AreApart}
 use Rattle.pddl_task.proofs.Among.{is_there}
 
 -- a test for the same name gives the same answer from the other side

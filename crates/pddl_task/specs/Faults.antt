@@ -1,9 +1,9 @@
 -- The faults of the texts of domains and problems, each with its place, and which of them is told.
 use Rattle.std.specs.Prelude.{ℕ, ◌≡◌, ◌≢◌, ◌⊎◌, Bool, false, ◌||◌, ◌&&◌, ◌==◌, List, [], ◌++◌, Option, Some, None, if◌then◌else◌, nat_lt, map, find, option_map, take, length, slice_get, Any, Contains, bytes_eq}
 use Rattle.std.specs.Option.{option_or}
-use Rattle.pddl_parser.specs.declared.texts.Word.{Word}
-use Rattle.pddl_parser.specs.declared.texts.Typed.{Typed}
-use Rattle.pddl_parser.specs.declared.texts.AtomText.{AtomText}
+use Rattle.pddl_forms.specs.declared.texts.Word.{Word}
+use Rattle.pddl_forms.specs.declared.texts.Typed.{Typed}
+use Rattle.pddl_forms.specs.declared.texts.AtomText.{AtomText}
 use Rattle.pddl_parser.specs.declared.texts.PredText.{PredText}
 use Rattle.pddl_parser.specs.declared.texts.ActionText.{ActionText}
 use Rattle.pddl_parser.specs.declared.texts.DomainText.{DomainText}
@@ -11,8 +11,8 @@ use Rattle.pddl_parser.specs.declared.texts.ProblemText.{ProblemText}
 use Rattle.ground_state.specs.declared.parts.TheConstants.{MAX_OBJECTS, MAX_ARITY, MAX_PARAMETERS}
 use Rattle.ground_state.specs.Task.{Reaches}
 use Rattle.pddl_task.specs.declared.fault.Fault.{Fault}
-use Rattle.pddl_task.specs.declared.fault.Kind.{Kind}
-use Rattle.pddl_task.specs.declared.fault.Kind.TheVariants.{Twice, Unknown, Arity, TypeCycle, OtherDomain}
+use Rattle.pddl_task.specs.declared.fault.FaultKind.{FaultKind}
+use Rattle.pddl_task.specs.declared.fault.FaultKind.TheVariants.{Twice, Unknown, Arity, TypeCycle, OtherDomain}
 use Rattle.pddl_task.specs.declared.refusal.TaskRefusal.{TaskRefusal}
 use Rattle.pddl_task.specs.declared.refusal.TaskRefusal.TheVariants as refusals
 use Rattle.pddl_task.specs.declared.refusal.Which.TheVariants as limits
@@ -20,7 +20,7 @@ use Rattle.pddl_task.specs.Names.{number_of}
 use Rattle.pddl_task.specs.Types.{root, text_of, word_of, names_of, type_names, types_of, type_of}
 
 -- a fault at a word
-abbrev pub fault_at : Kind → Word → Fault
+abbrev pub fault_at : FaultKind → Word → Fault
 fault_at kind word = record { kind = kind; at = word.at }
 
 -- the word of a predicate
@@ -28,8 +28,8 @@ abbrev pub head_of : PredText → Word
 head_of predicate = predicate.head
 
 -- the word of an action
-abbrev pub own_of : ActionText → Word
-own_of action = action.name
+abbrev pub action_word : ActionText → Word
+action_word action = action.name
 
 -- a word that is one of these names or equal to a word before it
 abbrev pub IsTwice : List (List ℕ) → List Word → Fault → Type 0
@@ -78,7 +78,7 @@ pub data IsDomainFault (domain : DomainText) (fault : Fault) : Type 0 where
   type_twice : IsTwice [] (map word_of domain.types) fault → IsDomainFault domain fault
   constant_twice : IsTwice [] (map word_of domain.constants) fault → IsDomainFault domain fault
   predicate_twice : IsTwice [] (map head_of domain.predicates) fault → IsDomainFault domain fault
-  action_twice : IsTwice [] (map own_of domain.actions) fault → IsDomainFault domain fault
+  action_twice : IsTwice [] (map action_word domain.actions) fault → IsDomainFault domain fault
   type_astray : Any (IsTypeCycle domain.types fault) domain.types → IsDomainFault domain fault
   of_constant : Any (IsUnknownType (type_names domain.types) fault) domain.constants → IsDomainFault domain fault
   of_predicate : Any (IsUnknownParameter (type_names domain.types) fault) domain.predicates → IsDomainFault domain fault
@@ -92,7 +92,7 @@ pub data IsProblemFault (domain : DomainText) (problem : ProblemText) (fault : F
   other_domain : problem.domain.text ≢ domain.name.text → fault ≡ fault_at OtherDomain problem.domain → IsProblemFault domain problem fault
 
 -- the place of a kind in the order of kinds
-abbrev pub rank_of : Kind → ℕ
+abbrev pub rank_of : FaultKind → ℕ
 rank_of Twice = 0
 rank_of Unknown = 1
 rank_of Arity = 2
@@ -133,7 +133,7 @@ abbrev pub problem_limit : DomainText → ProblemText → Option TaskRefusal
 problem_limit domain problem = objects_limit (length (domain.constants ++ problem.objects))
 
 -- how a fault is told by its kind and its place
-abbrev pub refusal_for : Kind → ℕ → TaskRefusal
+abbrev pub refusal_for : FaultKind → ℕ → TaskRefusal
 refusal_for Twice at = refusals.Twice at
 refusal_for Unknown at = refusals.Unknown at
 refusal_for Arity at = refusals.Arity at

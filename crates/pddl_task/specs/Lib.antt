@@ -3,5 +3,4 @@ pub mod Types
 pub mod Faults
 pub mod Parts
 pub mod Replies
-pub mod Arities
-pub mod Workings
+pub mod Inner

@@ -1,4 +1,4 @@
--- Names and their numbers.
+-- Names and their numbers: how types, predicates, parameters and objects are numbered.
 use Rattle.std.specs.Prelude.{ℕ, Bool, List, [], ◌∷◌, ◌++◌, if◌then◌else◌, fold, bytes_eq}
 use Rattle.std.specs.List.{list_any, position_or_len}
 

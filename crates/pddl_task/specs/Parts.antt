@@ -1,8 +1,8 @@
 -- The parts of a task and of an instance: the words of their texts in order, with names replaced by numbers.
 use Rattle.std.specs.Prelude.{ℕ, ◌≡◌, List, ◌++◌, None, if◌then◌else◌, map, length}
-use Rattle.pddl_parser.specs.declared.texts.Word.{Word}
-use Rattle.pddl_parser.specs.declared.texts.Typed.{Typed}
-use Rattle.pddl_parser.specs.declared.texts.AtomText.{AtomText}
+use Rattle.pddl_forms.specs.declared.texts.Word.{Word}
+use Rattle.pddl_forms.specs.declared.texts.Typed.{Typed}
+use Rattle.pddl_forms.specs.declared.texts.AtomText.{AtomText}
 use Rattle.pddl_parser.specs.declared.texts.PredText.{PredText}
 use Rattle.pddl_parser.specs.declared.texts.ActionText.{ActionText}
 use Rattle.pddl_parser.specs.declared.texts.DomainText.{DomainText}

@@ -15,20 +15,20 @@ abbrev pub IsRefusal : (Fault → Type 0) → Option TaskRefusal → TaskRefusal
 IsRefusal IsFault limit refusal =
     ((fault : Fault) × IsFirst IsFault (Some fault) × (refusal ≡ refusal_of fault)) ⊎ (IsFirst IsFault None × (limit ≡ Some refusal))
 
--- the one answer: the parts, or a refusal
+-- a right answer, of which there is at most one: the parts, or a refusal
 abbrev pub HasReply : {A : Type 0} → (A → Type 0) → (Fault → Type 0) → Option TaskRefusal → Result A TaskRefusal → Type 0
 HasReply Of IsFault limit (Ok parts) = Of parts
 HasReply Of IsFault limit (Err refusal) = IsRefusal IsFault limit refusal
 
--- the one answer to the text of a domain
+-- a right answer to the text of a domain
 abbrev pub HasTaskReply : DomainText → Result TaskParts TaskRefusal → Type 0
 HasTaskReply domain = HasReply (TaskOf domain) (IsDomainFault domain) (domain_limit domain)
 
--- the one answer to the text of a problem over a domain
+-- a right answer to the text of a problem over a domain
 abbrev pub HasInstanceReply : DomainText → ProblemText → Result InstanceParts TaskRefusal → Type 0
 HasInstanceReply domain problem = HasReply (InstanceOf domain problem) (IsProblemFault domain problem) (problem_limit domain problem)
 
--- an answer that has to be given, or want of memory, which says nothing
+-- a right answer, or want of memory, which says nothing
 abbrev pub OrMemory : {A : Type 0} → (Result A TaskRefusal → Type 0) → Result A TaskRefusal → Type 0
 OrMemory Is (Ok parts) = Is (Ok parts)
 OrMemory Is (Err OutOfMemory) = Unit {0}

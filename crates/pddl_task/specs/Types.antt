@@ -1,7 +1,7 @@
 -- The types of a domain: their names, numbers and parents.
 use Rattle.std.specs.Prelude.{ℕ, List, [], ◌∷◌, if◌then◌else◌, map, find, flat_map, unwrap_or, option_map, bytes_eq, codes}
-use Rattle.pddl_parser.specs.declared.texts.Word.{Word}
-use Rattle.pddl_parser.specs.declared.texts.Typed.{Typed}
+use Rattle.pddl_forms.specs.declared.texts.Word.{Word}
+use Rattle.pddl_forms.specs.declared.texts.Typed.{Typed}
 use Rattle.ground_state.specs.declared.parts.TypeEntry.{TypeEntry}
 use Rattle.pddl_task.specs.Names.{with_names, number_of}
 

@@ -1,5 +1,5 @@
 ghost use Rattle.std.specs.Prelude.{◌≡◌, [], ◌∷◌, ◌++◌, length, if◌then◌else◌, IfOk, OnOk};
-ghost use Rattle.pddl_task.specs.Arities.{AreAritiesOf, arity_in};
+ghost use Rattle.pddl_task.specs.Inner.Arities.{AreAritiesOf, arity_in};
 ghost use Rattle.pddl_task.specs.Names.{with_name, is_among};
 
 use crate::names::Names;

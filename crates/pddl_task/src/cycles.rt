@@ -1,12 +1,12 @@
-ghost use Rattle.std.specs.Prelude.{◌≡◌, ◌≢◌, ◌<◌, ◌^◌, ◌↔◌, IsTrue, true, Any, All, map, length, slice_index, IfOk};
+ghost use Rattle.std.specs.Prelude.{◌≡◌, ◌≢◌, ◌<◌, ◌^◌, ◌↔◌, IsTrue, Any, All, map, length, slice_index, IfOk};
 ghost use Rattle.ground_state.specs.declared.parts.TypeEntry.{TypeEntry};
 ghost use Rattle.ground_state.specs.Task.{ancestor};
 ghost use Rattle.pddl_task.specs.Types.{root, type_of, type_names, types_of};
-ghost use Rattle.pddl_task.specs.Names.{is_among};
 ghost use Rattle.pddl_task.specs.Faults.{IsFirst, IsTypeCycle};
-ghost use Rattle.pddl_task.specs.Workings.{AreTops, IsAstray};
+ghost use Rattle.pddl_task.specs.Inner.Faults.{AreTops, IsRootless};
 
-use crate::fault::{Fault, Kind, earlier};
+use crate::check::{Check, first_of};
+use crate::fault::{Fault, FaultKind};
 use crate::names::Names;
 use crate::typing::{ROOT, given_type};
 use flag_rules::OutOfMemory;
@@ -27,22 +27,33 @@ pub(crate) fn first_cycle(
     ensures { IfOk result (IsFirst (λ fault. Any (IsTypeCycle types.now fault) types.now)) }
 {
     let tops = tops(alloc, entries)?;
-    let mut first = None;
-    for typed in types {
-        first = earlier(first, cycle_at(names, &tops, typed));
+    first_of(&CycleCheck { names, tops: &tops }, types)
+}
+
+/// The check of types, where these are their names and the types that stand far above them.
+#[derive(Clone, Copy)]
+struct CycleCheck<'a> {
+    names: &'a Names,
+    tops: &'a [u32],
+}
+
+impl Check<Typed> for CycleCheck<'_> {
+    ghost use Rattle.pddl_task.specs.Inner.Faults.{IsRootless};
+
+    ghost IsFault = { λ check. IsRootless check.names.now check.tops.now };
+
+    fn first_fault(&self, typed: &Typed) -> Result<Option<Fault>, OutOfMemory> {
+        Ok(cycle_at(self.names, self.tops, typed))
     }
-    Ok(first)
 }
 
 /// The fault of a type, where it never reaches `object`, or is `object` with another parent.
 fn cycle_at(names: &Names, tops: &[u32], typed: &Typed) -> Option<Fault>
-    requires there { is_among typed.now.word.text names.now ≡ true }
-    requires tops { length tops.now ≡ length names.now }
-    requires few { length names.now < 2 ^ 32 }
-    ensures { IsFirst (λ fault. IsAstray names.now tops.now fault typed.now) result }
+    ensures { IsFirst (λ fault. IsRootless names.now tops.now fault typed.now) result }
 {
-    if tops[names.number(typed.word.text.as_slice())] != 0 || is_moved_root(typed) {
-        return Some(Fault::of(Kind::TypeCycle, &typed.word));
+    let top = tops.get(names.number(typed.word.text.as_slice())).copied();
+    if top != Some(0) || is_moved_root(typed) {
+        return Some(Fault::of(FaultKind::TypeCycle, &typed.word));
     }
     None
 }
@@ -54,7 +65,8 @@ fn is_moved_root(typed: &Typed) -> bool
     typed.word.text.as_slice() == ROOT.as_slice() && given_type(typed) != ROOT.as_slice()
 }
 
-/// For each type the one that stands so far above it that it is `object` exactly where the parents reach it.
+/// For each type the one that stands so far above it that it is `object` exactly where the parents reach it, by pointer
+/// doubling.
 fn tops(alloc: Global, entries: &[TypeEntry]) -> Result<Vec<u32>, OutOfMemory>
     requires few { length entries.now < 2 ^ 32 }
     requires parents { All (λ (entry : TypeEntry). entry.parent < length entries.now) entries.now }
@@ -73,7 +85,7 @@ fn tops(alloc: Global, entries: &[TypeEntry]) -> Result<Vec<u32>, OutOfMemory>
     Ok(above)
 }
 
-/// Of each type the one above that stands above it.
+/// The types that stand twice as far above as these do.
 fn twice_as_far(alloc: Global, above: &[u32]) -> Result<Vec<u32>, OutOfMemory>
     requires { All (λ number. number < length above.now) above.now }
     ensures { IfOk result (λ further. further.items ≡ map (slice_index above.now) above.now) }

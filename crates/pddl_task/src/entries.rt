@@ -1,11 +1,11 @@
 ghost use Rattle.std.specs.Prelude.{◌≡◌, ℕ, List, ◌<◌, ◌≤◌, ◌^◌, ◌++◌, All, length, map, IfOk, OnOk};
 ghost use Rattle.ground_state.specs.declared.parts.TheConstants.{MAX_OBJECTS, MAX_PARAMETERS, MAX_ARITY};
-ghost use Rattle.pddl_parser.specs.declared.texts.Word.{Word};
+ghost use Rattle.pddl_forms.specs.declared.texts.Word.{Word};
 ghost use Rattle.pddl_parser.specs.declared.texts.PredText.{PredText};
 ghost use Rattle.pddl_task.specs.Names.{number_of};
 ghost use Rattle.pddl_task.specs.Parts.{object_of, predicate_of, term_of, lifted_of, schema_of, fact_of};
 ghost use Rattle.pddl_task.specs.Types.{names_of, type_number};
-ghost use Rattle.pddl_task.specs.Workings.{IsSchemaText};
+ghost use Rattle.pddl_task.specs.Inner.Actions.{IsSchemaText};
 
 use crate::names::Names;
 use crate::typing::number_of_type;
@@ -79,6 +79,7 @@ pub(crate) fn schemas_of(
     Ok(entries)
 }
 
+/// The entry of an action.
 fn schema_entry(
     alloc: Global,
     scope: &Scope,
@@ -136,6 +137,7 @@ fn types_of_all(alloc: Global, types: &Names, params: &[Typed]) -> Result<List<u
     Ok(numbers)
 }
 
+/// The atoms of an action whose parameters have these names.
 fn lifted_atoms(
     alloc: Global,
     scope: &Scope,
@@ -155,6 +157,7 @@ fn lifted_atoms(
     Ok(lifted)
 }
 
+/// An atom of an action whose parameters have these names.
 fn lifted_at(
     alloc: Global,
     scope: &Scope,
@@ -181,6 +184,7 @@ fn predicate_number(heads: &Names, atom: &AtomText) -> u32
     heads.number(atom.head.text.as_slice()) as u32
 }
 
+/// The arguments of an atom, where parameters and constants have these names.
 fn terms_of(
     alloc: Global,
     params: &Names,
@@ -230,6 +234,7 @@ pub(crate) fn facts_of(
     Ok(facts)
 }
 
+/// An atom of a problem, where predicates and objects have these names.
 fn fact_at(
     alloc: Global,
     heads: &Names,
@@ -246,6 +251,7 @@ fn fact_at(
     })
 }
 
+/// The numbers of objects, where all have these names.
 fn numbers_of(alloc: Global, objects: &Names, words: &[Word]) -> Result<List<u16>, OutOfMemory>
     requires { length objects.now ≤ MAX_OBJECTS }
     ensures { IfOk result (λ numbers. numbers ≡

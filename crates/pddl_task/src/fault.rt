@@ -1,27 +1,32 @@
 ghost use Rattle.std.specs.Prelude.{◌≡◌};
 ghost use Rattle.pddl_task.specs.Faults.{fault_at, comes_before, rank_of};
-ghost use Rattle.pddl_task.specs.Workings.{earlier_of};
+ghost use Rattle.pddl_task.specs.Inner.Faults.{earlier_of};
 
 use pddl_parser::Word;
 
 /// The kinds of faults that have a place, in the order in which they are told where one place has two.
 #[derive(Clone, Copy, Debug, PartialEq, Eq)]
-pub(crate) enum Kind {
+pub(crate) enum FaultKind {
+    /// A word stands a second time.
     Twice,
+    /// A type, a predicate or a name is none.
     Unknown,
+    /// An atom has another number of arguments than its predicate has parameters.
     Arity,
+    /// A type does not stand under `object`.
     TypeCycle,
+    /// A problem is of another domain.
     OtherDomain,
 }
 
 /// A fault of a text, and the place of its word.
 #[derive(Clone, Copy, Debug, PartialEq, Eq)]
 pub(crate) struct Fault {
-    pub(crate) kind: Kind,
+    pub(crate) kind: FaultKind,
     pub(crate) at: u32,
 }
 
-impl Kind {
+impl FaultKind {
     /// The place of the kind in the order.
     fn rank(self) -> u8
         ensures { result ≡ rank_of self }
@@ -32,7 +37,7 @@ impl Kind {
 
 impl Fault {
     /// The fault of a word.
-    pub(crate) fn of(kind: Kind, word: &Word) -> Fault
+    pub(crate) fn of(kind: FaultKind, word: &Word) -> Fault
         ensures { result ≡ fault_at kind word.now }
     {
         Fault { kind, at: word.at }

@@ -1,7 +1,7 @@
 ghost use Rattle.std.specs.Prelude.{◌≡◌};
 ghost use Rattle.pddl_task.specs.Faults.{domain_limit, actions_limit, predicates_limit, count_limit, objects_limit};
 
-use crate::{TaskRefusal, Which};
+use crate::refusal::{TaskRefusal, Which};
 use ground_state::{MAX_ARITY, MAX_OBJECTS, MAX_PARAMETERS};
 use pddl_parser::{ActionText, DomainText, PredText};
 

@@ -5,13 +5,13 @@ ghost use Rattle.pddl_task.specs.Parts.{TaskOf, task_of, instance_of, heads_of, 
 ghost use Rattle.pddl_parser.specs.Replies.{IsDomainText, IsProblemText};
 ghost use Rattle.ground_state.specs.Instance.{IsInstance};
 ghost use Rattle.pddl_task.specs.Replies.{IsTaskReply, IsInstanceReply};
-ghost use Rattle.pddl_task.specs.Workings.{different};
+ghost use Rattle.pddl_task.specs.Inner.Names.{different};
 
-use crate::TaskRefusal;
 use crate::checks::{domain_fault, problem_fault};
 use crate::entries::{Scope, add_objects, facts_of, predicates_of, schemas_of};
 use crate::limits::{limit_of_domain, limit_of_objects};
 use crate::names::Names;
+use crate::refusal::TaskRefusal;
 use crate::typing::{names_of_types, type_entries};
 use flag_rules::{List, OutOfMemory};
 use ground_state::{Instance, InstanceParts, ObjectEntry, Task, TaskParts, TypeEntry};

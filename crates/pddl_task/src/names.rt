@@ -1,7 +1,7 @@
 ghost use Rattle.std.specs.Prelude.{◌≡◌, [], ◌<◌, not, length, map, get_or, OnOk, IfOk};
 ghost use Rattle.pddl_task.specs.Names.{with_name, with_names, number_of, is_among};
 ghost use Rattle.pddl_task.specs.Types.{text_of};
-ghost use Rattle.pddl_task.specs.Workings.{place_among, different};
+ghost use Rattle.pddl_task.specs.Inner.Names.{place_among, different};
 
 use crate::worded::Worded;
 use flag_rules::OutOfMemory;
@@ -24,6 +24,7 @@ impl Model for Names {
 }
 
 impl Names {
+    /// No names.
     pub(crate) fn new(alloc: Global) -> Names
         ensures { result ≡ [] }
     {
@@ -55,11 +56,14 @@ impl Names {
         Ok(())
     }
 
-    /// Adds a name where it is not there yet, and tells whether that was so.
+    /// Adds a name where it is not there yet, and tells whether that was so. A name that is there is not copied.
     pub(crate) fn add(&mut self, alloc: Global, name: &[u8]) -> Result<bool, OutOfMemory>
         ensures added { IfOk result (λ new. new ≡ not (is_among name.now self.old)) }
         ensures names { OnOk result (self.new ≡ with_name self.old name.now) }
     {
+        if self.holds(name) {
+            return Ok(false);
+        }
         Ok(self.names.insert(Vec::from_slice(alloc, name)?)?)
     }
 

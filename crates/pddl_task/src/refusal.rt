@@ -2,7 +2,7 @@ ghost use Rattle.std.specs.Prelude.{◌≡◌};
 ghost use Rattle.pddl_task.specs.declared.refusal.TaskRefusal.TheVariants.{OutOfMemory as NoMemory};
 ghost use Rattle.pddl_task.specs.Faults.{refusal_of};
 
-use crate::fault::{Fault, Kind};
+use crate::fault::{Fault, FaultKind};
 use flag_rules::OutOfMemory;
 use thiserror::Error;
 
@@ -39,9 +39,10 @@ pub enum TaskRefusal {
     /// An instance without objects and constants.
     #[error("there is no object")]
     NoObject,
-    /// So many of them, which is more than may be.
+    /// How many of them there are, which is more than may be.
     #[error("{1} are too many")]
     Limit(Which, u64),
+    /// There was no more memory.
     #[error("out of memory")]
     OutOfMemory,
 }
@@ -59,11 +60,11 @@ impl From<Fault> for TaskRefusal {
 
     fn from(fault: Fault) -> Self {
         match fault.kind {
-            Kind::Twice => TaskRefusal::Twice(fault.at),
-            Kind::Unknown => TaskRefusal::Unknown(fault.at),
-            Kind::Arity => TaskRefusal::Arity(fault.at),
-            Kind::TypeCycle => TaskRefusal::TypeCycle(fault.at),
-            Kind::OtherDomain => TaskRefusal::OtherDomain(fault.at),
+            FaultKind::Twice => TaskRefusal::Twice(fault.at),
+            FaultKind::Unknown => TaskRefusal::Unknown(fault.at),
+            FaultKind::Arity => TaskRefusal::Arity(fault.at),
+            FaultKind::TypeCycle => TaskRefusal::TypeCycle(fault.at),
+            FaultKind::OtherDomain => TaskRefusal::OtherDomain(fault.at),
         }
     }
 }

@@ -1,9 +1,9 @@
 ghost use Rattle.std.specs.Prelude.{◌≡◌, Some, None, map, if◌then◌else◌, OnOk, IfOk};
-ghost use Rattle.pddl_task.specs.declared.fault.Kind.TheVariants.{Twice};
+ghost use Rattle.pddl_task.specs.declared.fault.FaultKind.TheVariants.{Twice};
 ghost use Rattle.pddl_task.specs.Names.{with_name, is_among};
 ghost use Rattle.pddl_task.specs.Faults.{IsFirst, IsTwice, fault_at};
 
-use crate::fault::{Fault, Kind, earlier};
+use crate::fault::{Fault, FaultKind, earlier};
 use crate::names::Names;
 use crate::worded::Worded;
 use flag_rules::OutOfMemory;
@@ -35,5 +35,5 @@ fn seen_again(alloc: Global, seen: &mut Names, word: &Word) -> Result<Option<Fau
     if seen.add(alloc, word.text.as_slice())? {
         return Ok(None);
     }
-    Ok(Some(Fault::of(Kind::Twice, word)))
+    Ok(Some(Fault::of(FaultKind::Twice, word)))
 }

@@ -1,13 +1,14 @@
-ghost use Rattle.std.specs.Prelude.{◌≡◌, ℕ, ◌<◌, ◌^◌, List, map, length, IfOk, Any};
+ghost use Rattle.std.specs.Prelude.{◌≡◌, ℕ, ◌<◌, ◌^◌, List, map, length, IfOk};
 ghost use Rattle.pddl_task.specs.Names.{number_of};
 ghost use Rattle.pddl_task.specs.Types.{type_of, type_names, type_number, types_of, given_parent, parent_of};
-ghost use Rattle.pddl_task.specs.Faults.{IsFirst, IsUnknownType};
+ghost use Rattle.pddl_task.specs.Faults.{IsFirst, IsUnknownType, IsUnknownName};
 
-use crate::fault::{Fault, Kind, earlier};
+use crate::check::{Check, first_of};
+use crate::fault::{Fault, FaultKind};
 use crate::names::Names;
 use flag_rules::{List, OutOfMemory, Text};
 use ground_state::TypeEntry;
-use pddl_parser::Typed;
+use pddl_parser::{PredText, Typed, Word};
 use std::alloc::Global;
 
 /// The name of the root of all types, whose number is 0.
@@ -18,7 +19,7 @@ pub(crate) fn given_type(typed: &Typed) -> &[u8]
     ensures { result.now ≡ type_of typed.now }
 {
     match &typed.of {
-        Some(of) => of.text.as_slice(),
+        Some(of) => of.word().text.as_slice(),
         None => ROOT,
     }
 }
@@ -92,22 +93,46 @@ fn given_parents(alloc: Global, names: &Names, types: &[Typed]) -> Result<Vec<u3
     Ok(parents)
 }
 
-/// The first type of some typed words that is none of a domain's.
-pub(crate) fn first_unknown_type(names: &Names, items: &[Typed]) -> Option<Fault>
-    ensures { IsFirst (λ fault. Any (IsUnknownType names.now fault) items.now) result }
-{
-    let mut first = None;
-    for typed in items {
-        first = earlier(first, unknown_type(names, typed));
-    }
-    first
+/// The check of the types of typed words, where types have these names.
+#[derive(Clone, Copy)]
+pub(crate) struct TypeCheck<'a> {
+    pub(crate) types: &'a Names,
 }
 
-fn unknown_type(names: &Names, typed: &Typed) -> Option<Fault>
-    ensures { IsFirst (λ fault. IsUnknownType names.now fault typed.now) result }
+impl Check<Typed> for TypeCheck<'_> {
+    ghost IsFault = { λ check. IsUnknownType check.types.now };
+
+    fn first_fault(&self, typed: &Typed) -> Result<Option<Fault>, OutOfMemory> {
+        Ok(unknown_type(self.types, typed))
+    }
+}
+
+impl Check<PredText> for TypeCheck<'_> {
+    ghost use Rattle.pddl_task.specs.Faults.{IsUnknownParameter};
+
+    ghost IsFault = { λ check. IsUnknownParameter check.types.now };
+
+    fn first_fault(&self, predicate: &PredText) -> Result<Option<Fault>, OutOfMemory> {
+        first_of(self, predicate.params.as_slice())
+    }
+}
+
+/// The fault of a typed word whose type is none.
+fn unknown_type(types: &Names, typed: &Typed) -> Option<Fault>
+    ensures { IsFirst (λ fault. IsUnknownType types.now fault typed.now) result }
 {
     match &typed.of {
-        Some(of) if !names.holds(of.text.as_slice()) => Some(Fault::of(Kind::Unknown, of)),
-        _ => None,
+        Some(of) => unknown_name(types, of.word()),
+        None => None,
     }
+}
+
+/// The fault of a word that is the name of no type.
+fn unknown_name(types: &Names, word: &Word) -> Option<Fault>
+    ensures { IsFirst (λ fault. IsUnknownName types.now fault word.now) result }
+{
+    if types.holds(word.text.as_slice()) {
+        return None;
+    }
+    Some(Fault::of(FaultKind::Unknown, word))
 }

@@ -4,7 +4,7 @@ use pddl_parser::{ActionText, PredText, Typed, Word};
 
 /// What stands in a text under a word of its own.
 pub(crate) trait Worded {
-    ghost use Rattle.pddl_parser.specs.declared.texts.Word.{Word};
+    ghost use Rattle.pddl_forms.specs.declared.texts.Word.{Word};
 
     ghost word: { Self → Word };
 
@@ -33,9 +33,9 @@ impl Worded for PredText {
 }
 
 impl Worded for ActionText {
-    ghost use Rattle.pddl_task.specs.Faults.{own_of};
+    ghost use Rattle.pddl_task.specs.Faults.{action_word};
 
-    ghost word = { own_of };
+    ghost word = { action_word };
 
     fn word(&self) -> &Word {
         &self.name

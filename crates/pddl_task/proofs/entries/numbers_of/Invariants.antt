@@ -1,5 +1,5 @@
 use Rattle.std.proofs.Common.{◌≡◌, map, take}
-use Rattle.pddl_parser.specs.declared.texts.Word.{Word}
+use Rattle.pddl_forms.specs.declared.texts.Word.{Word}
 use Rattle.pddl_task.specs.Names.{number_of}
 use Rattle.pddl_task.proofs.entries.numbers_of.Given as goal
 

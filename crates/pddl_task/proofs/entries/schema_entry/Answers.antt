@@ -1,7 +1,7 @@
 use Rattle.std.proofs.Common.{◌∙◌, map, ap}
 use Rattle.std.proofs.lemmas.List.{length-map}
 use Rattle.pddl_task.specs.Types.{text_of, word_of, names_of}
-use Rattle.pddl_task.specs.Workings.{different}
+use Rattle.pddl_task.specs.Inner.Names.{different}
 use Rattle.pddl_task.proofs.Apart.{different_apart}
 use Rattle.pddl_task.proofs.entries.schema_entry.Goals as goal
 

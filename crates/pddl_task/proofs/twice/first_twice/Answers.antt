@@ -1,11 +1,10 @@
-use Rattle.std.proofs.Common.{◌∙◌, ap, sym, subst, map, take, arith, refl, if◌then◌else◌, Some, None, ◌+◌}
-use Rattle.pddl_task.specs.declared.fault.Kind.TheVariants.{Twice}
-use Rattle.pddl_task.specs.Faults.{IsFirst, IsTwice, fault_at}
-use Rattle.pddl_task.specs.Names.{with_name, with_names, is_among}
+use Rattle.std.proofs.Common.{◌∙◌, ap, sym, subst, map, take, arith, refl, ◌+◌}
+use Rattle.pddl_task.specs.Faults.{IsFirst, IsTwice}
+use Rattle.pddl_task.specs.Names.{with_name, with_names}
 use Rattle.pddl_task.specs.Types.{text_of}
-use Rattle.pddl_task.specs.Workings.{earlier_of}
+use Rattle.pddl_task.specs.Inner.Faults.{earlier_of}
 use Rattle.pddl_task.proofs.NamesOf.{names_more}
-use Rattle.pddl_task.proofs.Again.{first_again_more, first_of_no_words, words_at_end}
+use Rattle.pddl_task.proofs.Again.{told_again, first_again_more, first_of_no_words, words_at_end}
 use Rattle.pddl_task.proofs.twice.first_twice.Goals as goal
 
 pub loop-item-init : goal.loop-item-init
@@ -14,9 +13,7 @@ loop-item-init g c = record { names = refl; faults = first_of_no_words c.args.se
 pub loop-item-preserved : goal.loop-item-preserved
 loop-item-preserved g c =
     let words = map g.W.Worded.word (take c.loop-item.item-index c.args.items.now) in
-    let again = c.in_ok-again.ensures.fault
-    ∙ ap (λ w. if is_among w.text c.loop-item.seen then Some (fault_at Twice w) else None) c.word.ensures
-    ∙ ap (λ names. if is_among (g.W.Worded.word c.item-item.result).text names then Some (fault_at Twice (g.W.Worded.word c.item-item.result)) else None) c.loop-item.invariant.names in
+    let again = told_again c.in_ok-again.again (g.W.Worded.word c.item-item.result) c.word.result.now c.loop-item.seen (with_names c.args.seen (map text_of words)) c.in_ok-again.ensures.fault c.word.ensures c.loop-item.invariant.names in
     record {
       names =
           c.in_ok-again.ensures.names

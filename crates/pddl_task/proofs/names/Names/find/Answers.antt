@@ -1,5 +1,5 @@
 use Rattle.std.proofs.Common.{sym, ap, ◌∙◌, bytes_eq, vec_items}
-use Rattle.pddl_task.specs.Workings.{place_among}
+use Rattle.pddl_task.specs.Inner.Names.{place_among}
 use Rattle.pddl_task.proofs.Mapped.{place_mapped}
 use Rattle.pddl_task.proofs.names.Names.find.Goals as goal
 

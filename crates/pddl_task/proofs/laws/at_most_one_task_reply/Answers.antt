@@ -1,5 +1,5 @@
 use Rattle.pddl_task.proofs.OneAnswer.{one-task}
-use Rattle.pddl_task.proofs.laws.one_task_reply.Goals as goal
+use Rattle.pddl_task.proofs.laws.at_most_one_task_reply.Goals as goal
 
 pub returns : goal.returns
 returns c = one-task
