@@ -9,12 +9,14 @@ use Rattle.std.proofs.lemmas.Bool.{cases_Bool, and_parts, and_cases, eq-eqb, ne_
 use Rattle.flag_rules.specs.Line.{line, lines_of}
 use Rattle.program_model.specs.Semantics.{Semantics}
 use Rattle.program_model.specs.Program.{Program, IsPartial}
-use Rattle.program_model.specs.Verdict.{Stood, IsStood}
-use Rattle.program_model.specs.Counts.{raised, operations}
+use Rattle.program_model.specs.declared.outcome.RunOutcome.{RunOutcome}
+use Rattle.program_model.specs.Outcome.{IsOutcome, AreOutcomesFrom, AreOutcomes}
+use Rattle.flag_rules.specs.Counts.{raised}
+use Rattle.program_model.specs.Counts.{operations_made}
 use Rattle.instance_report.specs.declared.answer.Report.{Report}
-use Rattle.instance_report.specs.Runs.{AreRunsFrom, AreRuns, is_solved, operations_of}
+use Rattle.instance_report.specs.Runs.{is_solved, operations_of}
 use Rattle.instance_report.specs.Report.{run_text, count_text, IsReport}
-use Rattle.instance_report.proofs.OneReport.{same_runs}
+use Rattle.program_model.proofs.Outcomes.{same_outcomes}
 
 -- the lines of two lists, one after the other
 lines_of-append : (xs ys : List (List ℕ)) → lines_of (xs ++ ys) ≡ lines_of xs ++ lines_of ys
@@ -25,14 +27,14 @@ lines_of-append (x ∷ xs) ys = rw (lines_of-append xs ys, append_assoc (line x)
 raised_twice : (count x y : ℕ) → raised (raised count x) y ≡ raised count (x + y)
 raised_twice count x y = omega arith
 
-count_of_all : (p : Stood → Bool) (xs : List Stood) → list_all p xs ≡ true → count_by p xs ≡ length xs
+count_of_all : (p : RunOutcome → Bool) (xs : List RunOutcome) → list_all p xs ≡ true → count_by p xs ≡ length xs
 count_of_all p [] e = refl
 count_of_all p (x ∷ xs) e =
     let both = and_parts (p x) (list_all p xs) e in
     let later = count_of_all p xs both.1 in
     sum_by-cons (λ y. cond (p y) 1 0) x xs ∙ rw both.0 (omega arith)
 
-count_of_fewer : (p : Stood → Bool) (xs : List Stood) → list_all p xs ≡ false → count_by p xs < length xs
+count_of_fewer : (p : RunOutcome → Bool) (xs : List RunOutcome) → list_all p xs ≡ false → count_by p xs < length xs
 count_of_fewer p [] e = absurd (false≢true (sym e))
 count_of_fewer p (x ∷ xs) e =
     rw (sum_by-cons (λ y. cond (p y) 1 0) x xs) (elim (and_cases (p x) (list_all p xs) e) [
@@ -41,7 +43,7 @@ count_of_fewer p (x ∷ xs) e =
     ])
 
 -- all of a list pass exactly where as many do as there are
-all_counted : (p : Stood → Bool) (xs : List Stood) → (count_by p xs == length xs) ≡ list_all p xs
+all_counted : (p : RunOutcome → Bool) (xs : List RunOutcome) → (count_by p xs == length xs) ≡ list_all p xs
 all_counted p xs = elim (cases_Bool (list_all p xs)) [
   | inl e ↦ eq-eqb (count_by p xs) (length xs) (count_of_all p xs e) ∙ sym e
   | inr e ↦ ne_eqb (count_by p xs) (length xs) (λ same. let fewer = count_of_fewer p xs e in omega arith) ∙ sym e
@@ -52,10 +54,10 @@ pub byte_of : (b : Bool) → from_bool b ≡ cond b 1 0
 byte_of true = refl
 byte_of false = refl
 
--- the lines of the first t instances, how many of them are solved, and the operations made
+-- the lines of the first t instances, how many of them are solved, and the operations_made made
 pub record IsTold {C : Type 0} (m : Semantics C) (p : Program) (limit start t : ℕ) (text : List ℕ) (solved acts : ℕ) : Type 0 where
-  pub runs : List Stood
-  pub before : (later : List Stood) → AreRunsFrom m p limit t later → AreRunsFrom m p limit 0 (runs ++ later)
+  pub runs : List RunOutcome
+  pub before : (later : List RunOutcome) → AreOutcomesFrom m p limit t later → AreOutcomesFrom m p limit 0 (runs ++ later)
   pub many : length runs ≡ t
   pub told : text ≡ lines_of (map (run_text limit) runs)
   pub counted : solved ≡ count_by is_solved runs
@@ -69,7 +71,7 @@ module _ {C : Type 0} (m : Semantics C) (p : Program) (limit start : ℕ) where
   told_few t text solved acts h = omega (arith, h.counted, h.many, count_by-le-length is_solved h.runs)
 
   pub told_more : (t : ℕ) (text : List ℕ) (solved acts : ℕ) → IsTold m p limit start t text solved acts →
-      (x : Stood) → x.instance ≡ t → IsStood m p limit x → (new : List ℕ) (more after : ℕ) → new ≡ text ++ line (run_text limit x) → more ≡ solved + cond (is_solved x) 1 0 → after ≡ raised acts (operations m p x.instance x.steps) →
+      (x : RunOutcome) → x.instance ≡ t → IsOutcome m p limit x → (new : List ℕ) (more after : ℕ) → new ≡ text ++ line (run_text limit x) → more ≡ solved + cond (is_solved x) 1 0 → after ≡ raised acts (operations_made m p x.instance x.steps) →
       IsTold m p limit start (t + 1) new more after
   told_more t text solved acts h x instance stood new more after told counted made = record {
     runs = h.runs ++ x ∷ [];
@@ -82,9 +84,9 @@ module _ {C : Type 0} (m : Semantics C) (p : Program) (limit start : ℕ) where
     counted = counted ∙ ap (λ n. n + cond (is_solved x) 1 0) h.counted ∙ sym (sum_by_push (λ y. cond (is_solved y) 1 0) h.runs x);
     made =
         made
-        ∙ ap (λ count. raised count (operations m p x.instance x.steps)) h.made
-        ∙ raised_twice start (operations_of m p h.runs) (operations m p x.instance x.steps)
-        ∙ ap (raised start) (sym (sum_by_push (λ y. operations m p y.instance y.steps) h.runs x));
+        ∙ ap (λ count. raised count (operations_made m p x.instance x.steps)) h.made
+        ∙ raised_twice start (operations_of m p h.runs) (operations_made m p x.instance x.steps)
+        ∙ ap (raised start) (sym (sum_by_push (λ y. operations_made m p y.instance y.steps) h.runs x));
   }
 
   -- where the lines of all instances stand, and the last one after them
@@ -101,6 +103,6 @@ module _ {C : Type 0} (m : Semantics C) (p : Program) (limit start : ℕ) where
   }
 
   -- the meter then counted the operations of all runs
-  pub operations_made : (ops t : ℕ) (text : List ℕ) (solved acts : ℕ) → IsPartial ops p → IsTold m p limit start t text solved acts → t ≡ m.instances → (xs : List Stood) → AreRuns m p limit xs → acts ≡ raised start (operations_of m p xs)
-  operations_made ops t text solved acts partial h all xs are_runs =
-      h.made ∙ ap (λ runs. raised start (operations_of m p runs)) (same_runs m ops p limit partial h.runs xs 0 (rw (sym (append-nil h.runs)) (h.before [] all)) are_runs)
+  pub all_operations_made : (ops t : ℕ) (text : List ℕ) (solved acts : ℕ) → IsPartial ops p → IsTold m p limit start t text solved acts → t ≡ m.instances → (xs : List RunOutcome) → AreOutcomes m p limit xs → acts ≡ raised start (operations_of m p xs)
+  all_operations_made ops t text solved acts partial h all xs are_runs =
+      h.made ∙ ap (λ runs. raised start (operations_of m p runs)) (same_outcomes m ops p limit partial h.runs xs 0 (rw (sym (append-nil h.runs)) (h.before [] all)) are_runs)

@@ -1,6 +1,6 @@
 use flag_rules::Text;
 
-/// The report on a program. Own.
+/// The report on a program.
 #[derive(Debug, Drop)]
 pub struct Report {
     /// A line for each instance, and one with the count of those that are solved.

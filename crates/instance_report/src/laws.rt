@@ -5,8 +5,8 @@ ghost use Rattle.instance_report.specs.declared.answer.Report.{Report};
 ghost use Rattle.instance_report.specs.Runs.{SolvesAllWithin};
 ghost use Rattle.instance_report.specs.Report.{IsReport};
 
-/// A law over all machines: there is one report on a program under a limit.
-pub fn one_report<C>()
+/// A law over all machines: there is at most one report on a program under a limit.
+pub fn at_most_one_report<C>()
     ensures { (m : Semantics C) (program : Program) (limit : ℕ) (report other : Report) → IsProgram m.ops program →
         IsReport m program limit report → IsReport m program limit other → report ≡ other }
 {}

@@ -1,48 +1,46 @@
-ghost use Rattle.std.specs.Prelude.{◌≡◌, ◌≢◌, ℕ, ◌++◌, OnOk};
-ghost use Rattle.flag_rules.specs.Line.{line};
-ghost use Rattle.interpreter.specs.Standings.{stood_of};
-ghost use Rattle.instance_report.specs.Report.{then_number, standing_text, run_text, count_text};
+ghost use Rattle.std.specs.Prelude.{◌≡◌, ◌++◌, OnOk};
+ghost use Rattle.flag_rules.specs.Line.{line, then_number};
+ghost use Rattle.instance_report.specs.Inner.Told.{IsTold};
+ghost use Rattle.instance_report.specs.Report.{standing_text, run_text, count_text};
 
 use flag_rules::{OutOfMemory, Text};
-use interpreter::{Stand, Whole};
-use itoa::Buffer;
+use program_model::{RunOutcome, Stand};
 
 // Adds some words, a space and a number in decimal.
 fn add_number(text: &mut Text, words: &[u8], number: u64) -> Result<(), OutOfMemory>
     ensures { OnOk result (text.new ≡ text.old ++ (words.now ++ then_number number)) }
 {
     text.append(words)?;
-    text.push(b' ')?;
-    text.append(Buffer::new().format(number).as_bytes())
+    text.append_number(number)
 }
 
 // Adds where a run stands.
-fn add_standing(text: &mut Text, t: u8, whole: &Whole, limit: u64) -> Result<(), OutOfMemory>
-    requires { (line : ℕ) → whole.now.stand ≢ Stand.Waits line }
-    ensures { OnOk result (text.new ≡ text.old ++ standing_text limit (stood_of t whole.now)) }
+fn add_standing(text: &mut Text, run: &RunOutcome, limit: u64) -> Result<(), OutOfMemory>
+    requires { IsTold run.now.standing }
+    ensures { OnOk result (text.new ≡ text.old ++ standing_text limit run.now) }
 {
-    match whole.stand {
-        Stand::Ended => add_number(text, b" solved", whole.steps),
+    match run.standing {
+        Stand::Ended => add_number(text, b" solved", run.steps),
         Stand::Unmet => {
-            add_number(text, b" unmet", whole.steps)?;
-            add_number(text, b" missing", u64::from(whole.missing))
+            add_number(text, b" unmet", run.steps)?;
+            add_number(text, b" missing", u64::from(run.missing))
         }
-        Stand::Waits { .. } => unreachable!(),
-        Stand::Loops { from, to } => {
+        Stand::Repeats { from, to } => {
             add_number(text, b" loops", from)?;
             add_number(text, b"", to)
         }
         Stand::AtLimit => add_number(text, b" limit", limit),
+        Stand::Waits { .. } | Stand::QuotaUsed => unreachable!(),
     }
 }
 
 /// Adds the line of the run on an instance.
-pub(crate) fn add_run(text: &mut Text, t: u8, whole: &Whole, limit: u64) -> Result<(), OutOfMemory>
-    requires { (line : ℕ) → whole.now.stand ≢ Stand.Waits line }
-    ensures { OnOk result (text.new ≡ text.old ++ line (run_text limit (stood_of t whole.now))) }
+pub(crate) fn add_run(text: &mut Text, run: &RunOutcome, limit: u64) -> Result<(), OutOfMemory>
+    requires { IsTold run.now.standing }
+    ensures { OnOk result (text.new ≡ text.old ++ line (run_text limit run.now)) }
 {
-    add_number(text, b"instance", u64::from(t))?;
-    add_standing(text, t, whole, limit)?;
+    add_number(text, b"instance", u64::from(run.instance))?;
+    add_standing(text, run, limit)?;
     text.push(b'\n')
 }
 

@@ -10,16 +10,16 @@ use Rattle.program_model.specs.declared.instr.Instr.TheVariants.{Op, Goto, End}
 use Rattle.program_model.specs.Semantics.{Semantics}
 use Rattle.program_model.specs.Program.{Program, line_at, IsPartial, IsInstr}
 use Rattle.program_model.specs.Run.{Config, step, next, at}
-use Rattle.program_model.specs.Standing.{IsMark, IsNoticeable, IsNoticed, Standing, ended, unmet, waits, loops, at_limit, Comes, NothingBefore, IsStanding}
-use Rattle.program_model.specs.Counts.{raised, op_here, operations}
+use Rattle.program_model.specs.declared.standing.Stand.{Stand}
+use Rattle.program_model.specs.declared.standing.Stand.TheVariants as stands
+use Rattle.program_model.specs.Standing.{IsMark, IsNoticeable, IsNoticed, Comes, NothingBefore, IsStanding}
+use Rattle.flag_rules.specs.Counts.{raised}
+use Rattle.program_model.specs.Counts.{op_here, operations_made}
 use Rattle.program_model.proofs.Alphabets.{contains_op, contains_jump, no_inner_end}
 use Rattle.program_model.proofs.Runs.{open_stops, last_stops, no_later}
-use Rattle.interpreter.specs.declared.standing.Stand.{Stand}
-use Rattle.interpreter.specs.declared.standing.Stand.TheVariants as stands
-use Rattle.interpreter.specs.Standings.{standing_of}
-use Rattle.interpreter.specs.declared.plain_run.Configuration.{Configuration}
-use Rattle.interpreter.specs.declared.plain_run.Running.{Running}
-use Rattle.interpreter.specs.Progress.{config_of, Follows, IsRepeated, with_mark, GoesOn}
+use Rattle.interpreter.specs.declared.configuration.Configuration.{Configuration}
+use Rattle.interpreter.specs.declared.running.Running.{Running}
+use Rattle.interpreter.specs.Inner.Progress.{config_of, Follows, IsRepeated, with_mark, GoesOn}
 
 -- of two marked steps, the greater is more than twice the lesser
 marks_apart : (a b : ℕ) → IsMark a → IsMark b → a < b → 2 * a + 1 ≤ b
@@ -38,11 +38,12 @@ module _ {C : Type 0} (m : Semantics C) (belongs : ℕ → C → Type 0) (q : Pr
 
   -- before the run's step nothing comes
   nothing_before : NothingBefore m q t run.steps
-  nothing_before r ended l c = no_later m q t (suc r) run.steps (config_of run.here) (last_stops m m.ops q t r c.config partial c.comes c.last) (omega arith) follows.here
-  nothing_before r unmet l c = no_later m q t (suc r) run.steps (config_of run.here) (last_stops m m.ops q t r c.1.config partial c.1.comes c.1.last) (omega arith) follows.here
-  nothing_before r (waits line) l c = no_later m q t (suc r) run.steps (config_of run.here) (open_stops m q t r c.config c.comes (ap (line_at q) c.here ∙ c.is_open.undefined)) (omega arith) follows.here
-  nothing_before r (loops i j) l c = let same : j ≡ r = c.0 in follows.unnoticed i j (omega arith) c.1.noticeable
-  nothing_before r at_limit l c = c
+  nothing_before r stands.Ended l c = no_later m q t (suc r) run.steps (config_of run.here) (last_stops m m.ops q t r c.config partial c.comes c.last) (omega arith) follows.here
+  nothing_before r stands.Unmet l c = no_later m q t (suc r) run.steps (config_of run.here) (last_stops m m.ops q t r c.1.config partial c.1.comes c.1.last) (omega arith) follows.here
+  nothing_before r (stands.Waits line) l c = no_later m q t (suc r) run.steps (config_of run.here) (open_stops m q t r c.config c.comes (ap (line_at q) c.here ∙ c.is_open.undefined)) (omega arith) follows.here
+  nothing_before r (stands.Repeats i j) l c = let same : j ≡ r = c.0 in follows.unnoticed i j (omega arith) c.1.noticeable
+  nothing_before r stands.AtLimit l c = c
+  nothing_before r stands.QuotaUsed l c = c
 
   -- where the run is in the marked configuration once more, that is the repetition that is noticed
   noticed : IsRepeated run → IsNoticed m q t run.mark run.steps
@@ -80,24 +81,25 @@ module _ {C : Type 0} (m : Semantics C) (belongs : ℕ → C → Type 0) (q : Pr
   goes_on instr inner defined fresh = let within = follows.within in record { inner = omega (arith, inner); defined = defined; unnoticed = unnoticed fresh }
 
   -- where the run goes on, nothing comes at its step
-  nothing_here : (instr : Instr) → GoesOn m q t run instr → (x : Standing) → Comes m q t run.steps x → ⊥
-  nothing_here instr goes ended c =
+  nothing_here : (instr : Instr) → GoesOn m q t run instr → (x : Stand) → Comes m q t run.steps x → ⊥
+  nothing_here instr goes stands.Ended c =
       let here : c.config ≡ config_of run.here = same_Some c.config (config_of run.here) (sym c.comes ∙ follows.here) in
       let line : c.config.line ≡ run.here.line = ap (λ (config : Config C). config.line) here in
       let last = c.last in
       let inner = goes.inner in
       omega arith
-  nothing_here instr goes unmet c =
+  nothing_here instr goes stands.Unmet c =
       let here : c.1.config ≡ config_of run.here = same_Some c.1.config (config_of run.here) (sym c.1.comes ∙ follows.here) in
       let line : c.1.config.line ≡ run.here.line = ap (λ (config : Config C). config.line) here in
       let last = c.1.last in
       let inner = goes.inner in
       omega arith
-  nothing_here instr goes (waits line) c =
+  nothing_here instr goes (stands.Waits line) c =
       let here : c.config ≡ config_of run.here = same_Some c.config (config_of run.here) (sym c.comes ∙ follows.here) in
       none-some instr (sym c.is_open.undefined ∙ ap (line_at q) (sym c.here ∙ ap (λ (config : Config C). config.line) here) ∙ goes.defined)
-  nothing_here instr goes (loops i j) c = goes.unnoticed i (subst (IsNoticeable m q t i) c.0 c.1.noticeable)
-  nothing_here instr goes at_limit c = c
+  nothing_here instr goes (stands.Repeats i j) c = goes.unnoticed i (subst (IsNoticeable m q t i) c.0 c.1.noticeable)
+  nothing_here instr goes stands.AtLimit c = c
+  nothing_here instr goes stands.QuotaUsed c = c
 
   nothing_up_to : (instr : Instr) → GoesOn m q t run instr → NothingBefore m q t (run.steps + 1)
   nothing_up_to instr goes r x l c = elim (cases_lt r run.steps) [
@@ -111,20 +113,20 @@ module _ {C : Type 0} (m : Semantics C) (belongs : ℕ → C → Type 0) (q : Pr
 
   module _ (limit : ℕ) (in_limit : run.steps ≤ limit) where
     -- on the last line it ended, or ended unmet
-    pub stands_ended : (stand : Stand) (missing : ℕ) → run.here.line + 1 ≡ length q → m.missing t run.here.value ≡ missing → (missing ≡ 0 → stand ≡ stands.Ended) → (0 < missing → stand ≡ stands.Unmet) → IsStanding m q t limit run.steps (standing_of stand)
+    pub stands_ended : (stand : Stand) (missing : ℕ) → run.here.line + 1 ≡ length q → m.missing t run.here.value ≡ missing → (missing ≡ 0 → stand ≡ stands.Ended) → (0 < missing → stand ≡ stands.Unmet) → IsStanding m q t limit run.steps stand
     stands_ended stand zero last lacks met not_met = rw (met refl) (in_limit, record { config = config_of run.here; comes = follows.here; last = last; lacks = lacks }, nothing_before)
     stands_ended stand (suc missing) last lacks met not_met = rw (not_met (omega arith)) (in_limit, (missing, record { config = config_of run.here; comes = follows.here; last = last; lacks = lacks }), nothing_before)
 
     -- on an undefined line it waits
-    pub stands_waiting : line_at q run.here.line ≡ None → IsStanding m q t limit run.steps (waits run.here.line)
+    pub stands_waiting : line_at q run.here.line ≡ None → IsStanding m q t limit run.steps (stands.Waits run.here.line)
     stands_waiting undefined = (in_limit, record { config = config_of run.here; comes = follows.here; here = refl; is_open = record { within = follows.within; undefined = undefined } }, nothing_before)
 
-    -- in the marked configuration once more it loops
-    pub stands_looping : IsRepeated run → IsStanding m q t limit run.steps (loops run.mark run.steps)
+    -- in the marked configuration once more it repeats
+    pub stands_looping : IsRepeated run → IsStanding m q t limit run.steps (stands.Repeats run.mark run.steps)
     stands_looping again = (in_limit, (refl, noticed again), nothing_before)
 
     -- at the limit it stands there
-    pub stands_at_limit : (instr : Instr) → GoesOn m q t run instr → run.steps ≡ limit → IsStanding m q t limit run.steps at_limit
+    pub stands_at_limit : (instr : Instr) → GoesOn m q t run instr → run.steps ≡ limit → IsStanding m q t limit run.steps stands.AtLimit
     stands_at_limit instr goes same = (same, rw (sym same, follows.here) refl, rw (sym same) (nothing_up_to instr goes))
 
 -- ---- a step leads on
@@ -210,11 +212,11 @@ follows_on {C} m belongs q t partial run follows instr goes now same_now here st
 raised_on : (count x y : ℕ) → x ≤ y → raised (raised count x) (y - x) ≡ raised count y
 raised_on count x y h = omega arith
 
-operations_grow : {C : Type 0} (m : Semantics C) (q : Program) (t steps after : ℕ) → after ≡ steps + 1 → operations m q t steps ≤ operations m q t after
+operations_grow : {C : Type 0} (m : Semantics C) (q : Program) (t steps after : ℕ) → after ≡ steps + 1 → operations_made m q t steps ≤ operations_made m q t after
 operations_grow m q t steps zero e = absurd (omega arith)
-operations_grow m q t steps (suc after) e = subst (λ s. operations m q t s ≤ operations m q t (suc after)) (omega arith) (le-add_right (operations m q t after) (op_here q (at m q t after)))
+operations_grow m q t steps (suc after) e = subst (λ s. operations_made m q t s ≤ operations_made m q t (suc after)) (omega arith) (le-add_right (operations_made m q t after) (op_here q (at m q t after)))
 
 -- a count that rose by a run's operations up to a step, and then by those of one step more
-pub counted_on : {C : Type 0} (m : Semantics C) (q : Program) (t steps after : ℕ) → after ≡ steps + 1 → (start mid end : ℕ) → mid ≡ raised start (operations m q t steps) → end ≡ raised mid (operations m q t after - operations m q t steps) → end ≡ raised start (operations m q t after)
+pub counted_on : {C : Type 0} (m : Semantics C) (q : Program) (t steps after : ℕ) → after ≡ steps + 1 → (start mid end : ℕ) → mid ≡ raised start (operations_made m q t steps) → end ≡ raised mid (operations_made m q t after - operations_made m q t steps) → end ≡ raised start (operations_made m q t after)
 counted_on m q t steps after e start mid end x y =
-    y ∙ ap (λ count. raised count (operations m q t after - operations m q t steps)) x ∙ raised_on start _ _ (operations_grow m q t steps after e)
+    y ∙ ap (λ count. raised count (operations_made m q t after - operations_made m q t steps)) x ∙ raised_on start _ _ (operations_grow m q t steps after e)

@@ -3,4 +3,5 @@ pub mod Alphabets
 pub mod Runs
 pub mod Programs
 pub mod Standings
+pub mod Outcomes
 pub mod Verdicts

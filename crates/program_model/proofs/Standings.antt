@@ -5,7 +5,9 @@ use Rattle.std.proofs.lemmas.Bool.{cases_order}
 use Rattle.program_model.specs.Semantics.{Semantics}
 use Rattle.program_model.specs.Program.{Program, line_at, IsPartial}
 use Rattle.program_model.specs.Run.{Config, EndsMissing, Loops}
-use Rattle.program_model.specs.Standing.{IsNoticed, Waits, Standing, ended, unmet, waits, loops, at_limit, Comes, NothingBefore, IsStanding}
+use Rattle.program_model.specs.declared.standing.Stand.{Stand}
+use Rattle.program_model.specs.declared.standing.Stand.TheVariants as stands
+use Rattle.program_model.specs.Standing.{IsNoticed, Waits, Comes, NothingBefore, IsStanding}
 use Rattle.program_model.proofs.Runs.{open_stops, same_missing, loops_on, loops_go_on}
 
 module _ {C : Type 0} (m : Semantics C) (ops : ℕ) (q : Program) (t : ℕ) (partial : IsPartial ops q) where
@@ -45,45 +47,51 @@ module _ {C : Type 0} (m : Semantics C) (ops : ℕ) (q : Program) (t : ℕ) (par
       )
 
   -- a run comes to one thing at a step
-  same_coming : (s : ℕ) (x y : Standing) → Comes m q t s x → Comes m q t s y → x ≡ y
-  same_coming s ended ended x y = refl
-  same_coming s ended unmet x y = absurd (let e = same_missing m ops q t s s 0 (suc y.0) partial x y.1 in omega arith)
-  same_coming s ended (waits line) x y = absurd (ends_or_waits s 0 line x y)
-  same_coming s ended (loops i j) x y = absurd (loops_on m ops q t i j s 0 partial y.1.noticeable.loops x)
-  same_coming s ended at_limit x y = absurd y
-  same_coming s unmet ended x y = absurd (let e = same_missing m ops q t s s 0 (suc x.0) partial y x.1 in omega arith)
-  same_coming s unmet unmet x y = refl
-  same_coming s unmet (waits line) x y = absurd (ends_or_waits s (suc x.0) line x.1 y)
-  same_coming s unmet (loops i j) x y = absurd (loops_on m ops q t i j s (suc x.0) partial y.1.noticeable.loops x.1)
-  same_coming s unmet at_limit x y = absurd y
-  same_coming s (waits line) ended x y = absurd (ends_or_waits s 0 line y x)
-  same_coming s (waits line) unmet x y = absurd (ends_or_waits s (suc y.0) line y.1 x)
-  same_coming s (waits line) (waits other) x y = ap waits (same_waits s line other x y)
-  same_coming s (waits line) (loops i j) x y = absurd (waits_or_loops s line i j x y.1.noticeable.loops)
-  same_coming s (waits line) at_limit x y = absurd y
-  same_coming s (loops i j) ended x y = absurd (loops_on m ops q t i j s 0 partial x.1.noticeable.loops y)
-  same_coming s (loops i j) unmet x y = absurd (loops_on m ops q t i j s (suc y.0) partial x.1.noticeable.loops y.1)
-  same_coming s (loops i j) (waits line) x y = absurd (waits_or_loops s line i j y x.1.noticeable.loops)
-  same_coming s (loops i j) (loops a b) x y = let same = same_noticed i j a b x.1 y.1 in ap₂ loops same.0 same.1
-  same_coming s (loops i j) at_limit x y = absurd y
-  same_coming s at_limit y x z = absurd x
+  same_coming : (s : ℕ) (x y : Stand) → Comes m q t s x → Comes m q t s y → x ≡ y
+  same_coming s stands.Ended stands.Ended x y = refl
+  same_coming s stands.Ended stands.Unmet x y = absurd (let e = same_missing m ops q t s s 0 (suc y.0) partial x y.1 in omega arith)
+  same_coming s stands.Ended (stands.Waits line) x y = absurd (ends_or_waits s 0 line x y)
+  same_coming s stands.Ended (stands.Repeats i j) x y = absurd (loops_on m ops q t i j s 0 partial y.1.noticeable.loops x)
+  same_coming s stands.Ended stands.AtLimit x y = absurd y
+  same_coming s stands.Ended stands.QuotaUsed x y = absurd y
+  same_coming s stands.Unmet stands.Ended x y = absurd (let e = same_missing m ops q t s s 0 (suc x.0) partial y x.1 in omega arith)
+  same_coming s stands.Unmet stands.Unmet x y = refl
+  same_coming s stands.Unmet (stands.Waits line) x y = absurd (ends_or_waits s (suc x.0) line x.1 y)
+  same_coming s stands.Unmet (stands.Repeats i j) x y = absurd (loops_on m ops q t i j s (suc x.0) partial y.1.noticeable.loops x.1)
+  same_coming s stands.Unmet stands.AtLimit x y = absurd y
+  same_coming s stands.Unmet stands.QuotaUsed x y = absurd y
+  same_coming s (stands.Waits line) stands.Ended x y = absurd (ends_or_waits s 0 line y x)
+  same_coming s (stands.Waits line) stands.Unmet x y = absurd (ends_or_waits s (suc y.0) line y.1 x)
+  same_coming s (stands.Waits line) (stands.Waits other) x y = ap stands.Waits (same_waits s line other x y)
+  same_coming s (stands.Waits line) (stands.Repeats i j) x y = absurd (waits_or_loops s line i j x y.1.noticeable.loops)
+  same_coming s (stands.Waits line) stands.AtLimit x y = absurd y
+  same_coming s (stands.Waits line) stands.QuotaUsed x y = absurd y
+  same_coming s (stands.Repeats i j) stands.Ended x y = absurd (loops_on m ops q t i j s 0 partial x.1.noticeable.loops y)
+  same_coming s (stands.Repeats i j) stands.Unmet x y = absurd (loops_on m ops q t i j s (suc y.0) partial x.1.noticeable.loops y.1)
+  same_coming s (stands.Repeats i j) (stands.Waits line) x y = absurd (waits_or_loops s line i j y x.1.noticeable.loops)
+  same_coming s (stands.Repeats i j) (stands.Repeats a b) x y = let same = same_noticed i j a b x.1 y.1 in ap₂ stands.Repeats same.0 same.1
+  same_coming s (stands.Repeats i j) stands.AtLimit x y = absurd y
+  same_coming s (stands.Repeats i j) stands.QuotaUsed x y = absurd y
+  same_coming s stands.AtLimit y x z = absurd x
+  same_coming s stands.QuotaUsed y x z = absurd x
 
   -- a standing is come to within the limit, or it is the limit
-  Reached : ℕ → ℕ → Standing → Type 0
+  Reached : ℕ → ℕ → Stand → Type 0
   Reached limit s x = (s ≤ limit) × Comes m q t s x × NothingBefore m q t s
 
-  AtLimit : ℕ → ℕ → Standing → Type 0
-  AtLimit limit s x = (x ≡ at_limit) × (s ≡ limit) × NothingBefore m q t (limit + 1)
+  AtLimit : ℕ → ℕ → Stand → Type 0
+  AtLimit limit s x = (x ≡ stands.AtLimit) × (s ≡ limit) × NothingBefore m q t (limit + 1)
 
-  reached_or_not : (limit s : ℕ) (x : Standing) → IsStanding m q t limit s x → Reached limit s x ⊎ AtLimit limit s x
+  reached_or_not : (limit s : ℕ) (x : Stand) → IsStanding m q t limit s x → Reached limit s x ⊎ AtLimit limit s x
   unfolding Reached AtLimit
-  reached_or_not limit s ended h = inl h
-  reached_or_not limit s unmet h = inl h
-  reached_or_not limit s (waits line) h = inl h
-  reached_or_not limit s (loops i j) h = inl h
-  reached_or_not limit s at_limit h = inr (refl, h.0, h.2)
+  reached_or_not limit s stands.Ended h = inl h
+  reached_or_not limit s stands.Unmet h = inl h
+  reached_or_not limit s (stands.Waits line) h = inl h
+  reached_or_not limit s (stands.Repeats i j) h = inl h
+  reached_or_not limit s stands.AtLimit h = inr (refl, h.0, h.2)
+  reached_or_not limit s stands.QuotaUsed h = absurd h
 
-  pub same_standing : (limit s r : ℕ) (x y : Standing) → IsStanding m q t limit s x → IsStanding m q t limit r y → (s ≡ r) × (x ≡ y)
+  pub same_standing : (limit s r : ℕ) (x y : Stand) → IsStanding m q t limit s x → IsStanding m q t limit r y → (s ≡ r) × (x ≡ y)
   unfolding Reached AtLimit
   same_standing limit s r x y h k = elim (reached_or_not limit s x h) [
     | inl a ↦ elim (reached_or_not limit r y k) [

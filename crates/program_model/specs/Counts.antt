@@ -1,14 +1,10 @@
--- Counts of work: operations made and configurations copied.
-use Rattle.std.specs.Prelude.{ℕ, zero, suc, ◌+◌, ◌-◌, ◌^◌, max, min, Option, Some, None}
+-- The operations that a run makes.
+use Rattle.std.specs.Prelude.{ℕ, zero, suc, ◌+◌, Option, Some, None}
 use Rattle.program_model.specs.declared.instr.Instr.{Instr}
 use Rattle.program_model.specs.declared.instr.Instr.TheVariants.{Op, Goto, End}
 use Rattle.program_model.specs.Semantics.{Semantics}
 use Rattle.program_model.specs.Program.{Program, line_at}
 use Rattle.program_model.specs.Run.{Config, at}
-
--- a count of 64 bits after it rose: it stops at the last value, and never falls
-abbrev pub raised : ℕ → ℕ → ℕ
-raised count by = max count (min (count + by) (2 ^ 64 - 1))
 
 -- 1 for an operation, 0 for another instruction or none
 abbrev pub op_count : Option Instr → ℕ
@@ -23,6 +19,6 @@ op_here q None = 0
 op_here q (Some c) = op_count (line_at q c.line)
 
 -- how many of the first steps of a run are operations
-abbrev pub operations : {C : Type 0} → Semantics C → Program → ℕ → ℕ → ℕ
-operations m q t zero = 0
-operations m q t (suc steps) = operations m q t steps + op_here q (at m q t steps)
+abbrev pub operations_made : {C : Type 0} → Semantics C → Program → ℕ → ℕ → ℕ
+operations_made m q t zero = 0
+operations_made m q t (suc steps) = operations_made m q t steps + op_here q (at m q t steps)

@@ -1,5 +1,7 @@
--- Where a run stands under a limit of steps: ended, unmet, waiting, looping or at its limit.
+-- Where a run stands under a limit of steps: ended, unmet, waiting, repeating or at its limit.
 use Rattle.std.specs.Prelude.{◌≡◌, ℕ, ◌+◌, ◌*◌, ◌^◌, ◌<◌, ◌≤◌, Some, IsSome}
+use Rattle.program_model.specs.declared.standing.Stand.{Stand}
+use Rattle.program_model.specs.declared.standing.Stand.TheVariants as stands
 use Rattle.program_model.specs.Semantics.{Semantics}
 use Rattle.program_model.specs.Program.{Program, IsOpen}
 use Rattle.program_model.specs.Run.{Config, at, Ends, Unmet, Loops}
@@ -27,28 +29,22 @@ pub record Waits {C : Type 0} (m : Semantics C) (q : Program) (t s line : ℕ) :
   pub here : config.line ≡ line
   pub is_open : IsOpen q line
 
--- ended with the goal met, or unmet; waiting at a line; looping from one step to another; or having made all its steps
-pub data Standing : Type 0 where
-  ended : Standing
-  unmet : Standing
-  waits : ℕ → Standing
-  loops : ℕ → ℕ → Standing
-  at_limit : Standing
-
--- what a run comes to at step s
-abbrev pub Comes : {C : Type 0} → Semantics C → Program → ℕ → ℕ → Standing → Type 0
-Comes m q t s ended = Ends m q t s
-Comes m q t s unmet = Unmet m q t s
-Comes m q t s (waits line) = Waits m q t s line
-Comes m q t s (loops i j) = (j ≡ s) × IsNoticed m q t i j
-Comes m q t s at_limit = ⊥
+-- what a run comes to at step s, under no limit and no quota
+abbrev pub Comes : {C : Type 0} → Semantics C → Program → ℕ → ℕ → Stand → Type 0
+Comes m q t s stands.Ended = Ends m q t s
+Comes m q t s stands.Unmet = Unmet m q t s
+Comes m q t s (stands.Repeats i j) = (j ≡ s) × IsNoticed m q t i j
+Comes m q t s (stands.Waits line) = Waits m q t s line
+Comes m q t s stands.AtLimit = ⊥
+Comes m q t s stands.QuotaUsed = ⊥
 
 -- a run comes to nothing at the steps below s
 abbrev pub NothingBefore : {C : Type 0} → Semantics C → Program → ℕ → ℕ → Type 0
-NothingBefore m q t s = (r : ℕ) (standing : Standing) → r < s → Comes m q t r standing → ⊥
+NothingBefore m q t s = (r : ℕ) (standing : Stand) → r < s → Comes m q t r standing → ⊥
 
 -- the standing of a run under a limit, with the step where it is reached: the first that the run comes to, at a step of
--- at most the limit; else at the limit
-abbrev pub IsStanding : {C : Type 0} → Semantics C → Program → ℕ → ℕ → ℕ → Standing → Type 0
-IsStanding m q t limit s at_limit = (s ≡ limit) × IsSome (at m q t limit) × NothingBefore m q t (limit + 1)
+-- at most the limit; else at the limit. No run has a used quota for its standing.
+abbrev pub IsStanding : {C : Type 0} → Semantics C → Program → ℕ → ℕ → ℕ → Stand → Type 0
+IsStanding m q t limit s stands.AtLimit = (s ≡ limit) × IsSome (at m q t limit) × NothingBefore m q t (limit + 1)
+IsStanding m q t limit s stands.QuotaUsed = ⊥
 IsStanding m q t limit s standing = (s ≤ limit) × Comes m q t s standing × NothingBefore m q t s

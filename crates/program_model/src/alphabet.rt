@@ -11,7 +11,7 @@ pub const MAX_LINES: u8 = 16;
 pub const MAX_OPS: u32 = 448;
 
 /// How many conditions a jump may have.
-const CONDITIONS: u32 = 4;
+pub const CONDITIONS: u32 = 4;
 
 /// How many instructions the alphabet of a line has, in a program of so many lines over so many operations.
 pub fn alphabet_len(ops: u32, lines: u8, line: u8) -> u32
@@ -19,7 +19,7 @@ pub fn alphabet_len(ops: u32, lines: u8, line: u8) -> u32
     requires lines { lines ≤ MAX_LINES }
     requires line { line < lines }
     ensures length { result ≡ length (alphabet ops lines line) }
-    ensures inner { line + 1 < lines → result ≡ ops + 4 * (lines - 2) }
+    ensures inner { line + 1 < lines → result ≡ ops + CONDITIONS * (lines - 2) }
     ensures last { line + 1 ≡ lines → result ≡ 1 }
 {
     if line + 1 == lines {
@@ -101,7 +101,7 @@ fn place_of(lines: u8, line: u8, target: u8) -> Option<u8>
 
 // The condition at a place among all.
 fn cond_at(place: u32) -> Cond
-    requires { place < 4 }
+    requires { place < CONDITIONS }
     ensures { slice_get conditions place ≡ Some result }
 {
     match place {

@@ -1,6 +1,6 @@
 use flag_rules::Cond;
 
-/// An instruction of a planning program. Own.
+/// An instruction of a planning program.
 #[derive(Clone, Copy, Debug, PartialEq, Eq)]
 pub enum Instr {
     /// An operation of the machine, by its number from 0.

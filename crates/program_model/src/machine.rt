@@ -1,6 +1,6 @@
 ghost use Rattle.std.specs.Prelude.{◌≡◌, ℕ, ◌<◌, ◌≤◌, ◌↔◌, IsTrue, IfOk};
 ghost use Rattle.program_model.specs.Semantics.{Semantics};
-ghost use Rattle.program_model.specs.Counts.{raised};
+ghost use Rattle.flag_rules.specs.Counts.{raised};
 
 use crate::MAX_OPS;
 use flag_rules::{OutOfMemory, Sign};
@@ -14,7 +14,7 @@ pub const MAX_POINTERS: u8 = 4;
 
 /// What programs run on: some planning instances, and numbered operations on the values of their configurations. A value
 /// belongs to an instance; it holds all of a configuration but the line. What a machine means is `semantics`; code that is
-/// generic over machines can act on and copy values only at the meter that it was given. Own.
+/// generic over machines can act on and copy values only at the meter that it was given.
 pub trait Machine {
     /// A value: the pointers, the sign and the rest of a configuration.
     type Cfg: Drop;

@@ -4,8 +4,8 @@ ghost use Rattle.program_model.specs.Program.{line_at, empty, with_line, without
 use crate::{Instr, MAX_LINES};
 use std::marker::Model;
 
-/// A program of 1 to 16 lines, each with an instruction or undefined. It is a fixed table and takes no memory. Contracts
-/// see it as the list of its lines. Own.
+/// A program of 1 to `MAX_LINES` lines, each with an instruction or undefined. It is a fixed table and takes no memory.
+/// Contracts see it as the list of its lines.
 #[derive(Debug, Drop)]
 pub struct Partial {
     table: [Option<Instr>; MAX_LINES as usize],
@@ -14,13 +14,14 @@ pub struct Partial {
 
 impl Model for Partial {
     ghost use Rattle.std.specs.Prelude.{◌≡◌, ◌<◌, ◌≤◌, length, take};
+    ghost use Rattle.program_model.specs.declared.alphabet.TheConstants.{MAX_LINES};
     ghost use Rattle.program_model.specs.Program.{Program};
 
     ghost Value = { Program };
 
     ghost view = { λ partial. take partial.lines partial.table };
 
-    ghost invariant = { λ partial. (0 < partial.lines) × (partial.lines ≤ 16) × (length partial.table ≡ 16) };
+    ghost invariant = { λ partial. (0 < partial.lines) × (partial.lines ≤ MAX_LINES) × (length partial.table ≡ MAX_LINES) };
 }
 
 impl Partial {

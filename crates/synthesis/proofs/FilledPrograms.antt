@@ -8,7 +8,7 @@ use Rattle.program_model.specs.declared.instr.Instr.{Instr}
 use Rattle.program_model.specs.declared.instr.Instr.TheVariants.{Op}
 use Rattle.program_model.specs.Alphabet.{alphabet}
 use Rattle.program_model.specs.Program.{Program, line_at, empty, with_line, IsOpen, IsPartial, IsInstr, IsProgram}
-use Rattle.program_model.specs.Verdict.{refused, limited, waiting, solved}
+use Rattle.program_model.specs.declared.verdict.Verdict.TheVariants as verdicts
 use Rattle.program_model.proofs.Places.{contains_at}
 use Rattle.program_model.proofs.Alphabets.{alphabet-inner, get-inner_op}
 use Rattle.program_model.proofs.Programs.{line_at-past, line_within, length-empty, partial_empty, partial_with_line, open_is_not_last}
@@ -48,10 +48,10 @@ module _ {C : Type 0} (s : Setting C) (size : ℕ) where
   empty_sized some = (length-empty size some, partial_empty s.machine.ops size some)
 
   first_of_two : (state : State) (p q : Program) (later : Option Program) → IsSized p → (later ≡ Some q → IsSized q) → or_else (solved_program state p) later ≡ Some q → IsSized q
-  first_of_two (judged (refused x)) p q later sized k e = k e
-  first_of_two (judged (limited t)) p q later sized k e = k e
-  first_of_two (judged (waiting line)) p q later sized k e = k e
-  first_of_two (judged solved) p q later sized k e = subst IsSized (same_Some p q e) sized
+  first_of_two (judged (verdicts.Refused at cause)) p q later sized k e = k e
+  first_of_two (judged (verdicts.AtLimit t)) p q later sized k e = k e
+  first_of_two (judged (verdicts.Waiting line)) p q later sized k e = k e
+  first_of_two (judged verdicts.Solved) p q later sized k e = subst IsSized (same_Some p q e) sized
   first_of_two (split line stamp) p q later sized k e = k e
   first_of_two twin p q later sized k e = k e
 

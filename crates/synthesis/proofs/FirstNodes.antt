@@ -8,7 +8,7 @@ use Rattle.std.proofs.lemmas.List.Elements.{All-map}
 use Rattle.synthesis.specs.declared.nodes.Entry.{Entry}
 use Rattle.synthesis.specs.declared.turn.Waiting.{Waiting}
 use Rattle.synthesis.specs.Search.{Node, is_waiting}
-use Rattle.synthesis.specs.Nodes.{node_of, nodes_of, ComesFirst, IsFirstWaiting}
+use Rattle.synthesis.specs.Inner.Nodes.{node_of, nodes_of, ComesFirst, IsFirstWaiting}
 use Rattle.synthesis.proofs.PlacesInLists.{take_seen}
 
 pub none_waits : (entries : List Entry) → All (λ (entry : Entry). is_waiting (node_of entry) ≡ false) entries → list_any is_waiting (nodes_of entries) ≡ false

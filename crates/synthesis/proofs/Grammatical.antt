@@ -1,8 +1,7 @@
 -- The answer of a search is of the grammar of answers.
-use Rattle.std.proofs.Common.{◌≡◌, ℕ, zero, suc, ◌+◌, ◌<◌, ◌≤◌, List, [], ◌∷◌, ◌++◌, map, length, true, Option, Some, refl, sym, ◌∙◌, ap, subst, arith}
+use Rattle.std.proofs.Common.{◌≡◌, ℕ, zero, suc, ◌+◌, ◌<◌, ◌≤◌, List, [], ◌∷◌, ◌++◌, map, length, Option, Some, refl, sym, ◌∙◌, ap, subst, arith}
 use Rattle.std.specs.Prelude.{All}
 use Rattle.std.specs.List.{range_with_len}
-use Rattle.std.proofs.lemmas.Bool.{false≢true}
 use Rattle.std.proofs.lemmas.Option.{none-some, same_Some}
 use Rattle.std.proofs.lemmas.List.{map-append}
 use Rattle.std.proofs.lemmas.List.Elements.{All-nil, All-cons, All-append}
@@ -11,8 +10,9 @@ use Rattle.program_model.specs.declared.alphabet.TheConstants.{MAX_LINES}
 use Rattle.program_model.specs.declared.machine.TheConstants.{MAX_INSTANCES, MAX_POINTERS}
 use Rattle.program_model.specs.Alphabet.{alphabet}
 use Rattle.program_model.specs.Program.{Program, with_line, IsPartial, Extends}
-use Rattle.program_model.specs.Standing.{Standing, ended, unmet, waits, loops, at_limit, IsStanding}
-use Rattle.program_model.specs.Verdict.{Stood, AreStood, refused, limited, waiting, solved, is_refuting, verdict}
+use Rattle.program_model.specs.declared.verdict.Cause.TheVariants as causes
+use Rattle.program_model.specs.declared.verdict.Verdict.TheVariants as verdicts
+use Rattle.program_model.specs.Verdict.{IsVerdict}
 use Rattle.program_model.proofs.Runs.{same_end}
 use Rattle.refutation_tree.specs.declared.limits.TheConstants.{MAX_SPLITS, MAX_STEPS}
 use Rattle.refutation_tree.specs.declared.evidence.Mark.{Mark}
@@ -23,14 +23,14 @@ use Rattle.refutation_tree.specs.declared.evidence.Answer.{Answer}
 use Rattle.refutation_tree.specs.Accepted.{AreEndsFrom}
 use Rattle.refutation_tree.specs.Covers.{Child, children as covered_children}
 use Rattle.refutation_tree.specs.Grammar.{IsFromOneTo, IsInRange, AreTrees, IsTree, last_size, FitsOutcome, IsGrammatical}
-use Rattle.synthesis.specs.Search.{Setting, State, judged, split, twin, Node, Close, found, run_spent, budget_spent, refuted, solved_program, or_else, first_solved, refusal_mark, mark_of, SearchesSize}
+use Rattle.synthesis.specs.Search.{Setting, State, judged, split, twin, Node, Close, found, run_spent, budget_spent, refuted, solved_program, or_else, first_solved, mark_of, SearchesSize}
 use Rattle.synthesis.specs.Answers.{tree_of, RefutesSizes, none, next, Concludes, Searches, closed, nothing, IsAnswer}
-use Rattle.synthesis.proofs.Judging.{refused_stands, limited_within}
+use Rattle.synthesis.proofs.Judging.{refused_shown, ended_at}
 use Rattle.synthesis.proofs.Growing.{followers, HasState, AreGrown, empty_alone, size_grown}
 use Rattle.synthesis.proofs.Marking.{first_limited_within}
 use Rattle.synthesis.proofs.FilledPrograms.{found_sized, filled_is_program}
 use Rattle.synthesis.proofs.Stamps.{IsStamped, AreStamped, size_stamped}
-use Rattle.synthesis.proofs.Ends.{end_extends, ended_at}
+use Rattle.synthesis.proofs.Ends.{end_extends}
 
 -- ---- the shape of trees
 
@@ -45,18 +45,12 @@ module _ {C : Type 0} (s : Setting C) where
   children_programs q line [] = refl
   children_programs q line (instr ∷ instrs) = ap (λ (qs : List Program). with_line q line instr ∷ qs) (children_programs q line instrs)
 
-  refusal_tree : (qs : List Program) (q : Program) (ms : List Mark) (t steps : ℕ) (standing : Standing) → AreTrees s.machine.ops qs ms → AreTrees s.machine.ops (q ∷ qs) (refusal_mark t steps standing ∷ ms)
-  refusal_tree qs q ms t steps ended h = h
-  refusal_tree qs q ms t steps unmet h = h
-  refusal_tree qs q ms t steps (waits line) h = h
-  refusal_tree qs q ms t steps (loops i j) h = h
-  refusal_tree qs q ms t steps at_limit h = h
-
   mark_tree : (c : Child) (cs : List Child) (ms : List Mark) (state : State) → HasState s c state → AreTrees s.machine.ops (programs (followers s c.program state ++ cs)) ms → AreTrees s.machine.ops (programs (c ∷ cs)) (mark_of state ∷ ms)
-  mark_tree c cs ms (judged (refused x)) h k = refusal_tree (programs cs) c.program ms x.instance x.steps x.standing k
-  mark_tree c cs ms (judged (limited t)) h k = k
-  mark_tree c cs ms (judged (waiting line)) h k = k
-  mark_tree c cs ms (judged solved) h k = k
+  mark_tree c cs ms (judged (verdicts.Refused t (causes.Unmet steps))) h k = k
+  mark_tree c cs ms (judged (verdicts.Refused t (causes.Loops from to))) h k = k
+  mark_tree c cs ms (judged (verdicts.AtLimit t)) h k = k
+  mark_tree c cs ms (judged (verdicts.Waiting line)) h k = k
+  mark_tree c cs ms (judged verdicts.Solved) h k = k
   mark_tree c cs ms (split line stamp) h k = (
     h,
     subst (λ (qs : List Program). AreTrees s.machine.ops qs ms)
@@ -75,24 +69,17 @@ module _ {C : Type 0} (s : Setting C) where
 -- ---- the numbers of marks
 
 module _ {C : Type 0} (s : Setting C) (budget : ℕ) (splits : budget ≤ MAX_SPLITS) (steps_within : s.limit ≤ MAX_STEPS) where
-  refusal_in_range : (q : Program) (t steps : ℕ) (standing : Standing) → t < s.machine.instances → IsStanding s.machine q t s.limit steps standing → is_refuting standing ≡ true → IsInRange s.machine.instances (refusal_mark t steps standing)
-  refusal_in_range q t steps ended within h refutes = absurd (false≢true refutes)
-  refusal_in_range q t steps unmet within h refutes = let few : steps ≤ s.limit = h.0 in (within, omega arith)
-  refusal_in_range q t steps (waits line) within h refutes = absurd (false≢true refutes)
-  refusal_in_range q t steps (loops i j) within h refutes =
-      let few : steps ≤ s.limit = h.0 in
-      let last : j ≡ steps = h.1.0 in
-      let before : i < j = h.1.1.noticeable.loops.before in
-      (within, before, omega arith)
-  refusal_in_range q t steps at_limit within h refutes = absurd (false≢true refutes)
-
   mark_in_range : (c : Child) (state : State) → HasState s c state → IsStamped budget state → IsInRange s.machine.instances (mark_of state)
-  mark_in_range c (judged (refused x)) h stamped =
-      let stands = refused_stands s.machine c.program s.limit h.0 x h.1 h.2 in
-      refusal_in_range c.program x.instance x.steps x.standing stands.0.within stands.0.stands stands.1
-  mark_in_range c (judged (limited t)) h stamped = limited_within s.machine c.program s.limit h.0 t h.1 h.2
-  mark_in_range c (judged (waiting line)) h stamped = tt
-  mark_in_range c (judged solved) h stamped = tt
+  mark_in_range c (judged (verdicts.Refused t (causes.Unmet steps))) h stamped =
+      let few = (refused_shown s.machine c.program s.limit t (causes.Unmet steps) h).0 in
+      (h.0, omega arith)
+  mark_in_range c (judged (verdicts.Refused t (causes.Loops from to))) h stamped =
+      let shown = refused_shown s.machine c.program s.limit t (causes.Loops from to) h in
+      let few = shown.0 in
+      (h.0, shown.1.before, omega arith)
+  mark_in_range c (judged (verdicts.AtLimit t)) h stamped = h.0
+  mark_in_range c (judged (verdicts.Waiting line)) h stamped = tt
+  mark_in_range c (judged verdicts.Solved) h stamped = tt
   mark_in_range c (split line stamp) h stamped = let below : stamp < budget = stamped in omega arith
   mark_in_range c twin h stamped = tt
 
@@ -146,19 +133,19 @@ module _ {C : Type 0} (s : Setting C) (budget : ℕ) (splits : budget ≤ MAX_SP
 
   -- ---- the program and its ends
 
-  -- the runs of a program, all of which end with the goal met
-  abbrev HasSolvedRuns : Program → Type 0
-  HasSolvedRuns q = (runs : List Stood) × AreStood s.machine q s.limit runs × (verdict runs ≡ solved)
+  -- the runs of a program all end with the goal met
+  abbrev IsSolved : Program → Type 0
+  IsSolved q = IsVerdict s.machine q s.limit verdicts.Solved
 
-  first_of_two : (c : Child) (state : State) (q : Program) (later : Option Program) → HasState s c state → (later ≡ Some q → HasSolvedRuns q) → or_else (solved_program state c.program) later ≡ Some q → HasSolvedRuns q
-  first_of_two c (judged (refused x)) q later h k e = k e
-  first_of_two c (judged (limited t)) q later h k e = k e
-  first_of_two c (judged (waiting line)) q later h k e = k e
-  first_of_two c (judged solved) q later h k e = subst HasSolvedRuns (same_Some c.program q e) h
+  first_of_two : (c : Child) (state : State) (q : Program) (later : Option Program) → HasState s c state → (later ≡ Some q → IsSolved q) → or_else (solved_program state c.program) later ≡ Some q → IsSolved q
+  first_of_two c (judged (verdicts.Refused at cause)) q later h k e = k e
+  first_of_two c (judged (verdicts.AtLimit t)) q later h k e = k e
+  first_of_two c (judged (verdicts.Waiting line)) q later h k e = k e
+  first_of_two c (judged verdicts.Solved) q later h k e = subst IsSolved (same_Some c.program q e) h
   first_of_two c (split line stamp) q later h k e = k e
   first_of_two c twin q later h k e = k e
 
-  solved_runs : (nodes : List Node) (cs : List Child) (q : Program) → AreGrown s cs nodes → first_solved nodes ≡ Some q → HasSolvedRuns q
+  solved_runs : (nodes : List Node) (cs : List Child) (q : Program) → AreGrown s cs nodes → first_solved nodes ≡ Some q → IsSolved q
   solved_runs [] cs q h e = absurd (none-some q e)
   solved_runs (node ∷ nodes) [] q h e = absurd h
   solved_runs (node ∷ nodes) (c ∷ cs) q h e =
@@ -169,10 +156,10 @@ module _ {C : Type 0} (s : Setting C) (budget : ℕ) (splits : budget ≤ MAX_SP
   ends_count p [] t h = omega arith
   ends_count p (j ∷ js) t h = let later = ends_count p js (t + 1) h.2 in omega arith
 
-  ends_within : (q p : Program) (js : List ℕ) (t : ℕ) → IsPartial s.machine.ops q → IsPartial s.machine.ops p → Extends p q → HasSolvedRuns q → AreEndsFrom s.machine p t js → All (λ j. j ≤ MAX_STEPS) js
+  ends_within : (q p : Program) (js : List ℕ) (t : ℕ) → IsPartial s.machine.ops q → IsPartial s.machine.ops p → Extends p q → IsSolved q → AreEndsFrom s.machine p t js → All (λ j. j ≤ MAX_STEPS) js
   ends_within q p [] t partial whole extends runs h = All-nil (λ j. j ≤ MAX_STEPS)
   ends_within q p (j ∷ js) t partial whole extends runs h =
-      let end = ended_at s.machine q partial s.limit 0 runs.0 runs.1 runs.2 t (omega arith) h.0 in
+      let end = ended_at s.machine q s.limit t runs h.0 in
       let same = same_end s.machine s.machine.ops p t end.0 j 0 0 whole (end_extends s.machine p q t end.0 end.1.1 extends) h.1 in
       let few : end.0 ≤ s.limit = end.1.0 in
       All-cons (λ i. i ≤ MAX_STEPS) j js (omega arith) (ends_within q p js (t + 1) partial whole extends runs h.2)

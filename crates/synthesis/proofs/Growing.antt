@@ -1,10 +1,11 @@
 -- The nodes of a size, in preorder, make a tree: each split node is followed by its children.
-use Rattle.std.proofs.Common.{◌≡◌, ℕ, ◌+◌, List, [], ◌∷◌, ◌++◌, map, length, false, true, refl, sym, subst, inl, inr}
+use Rattle.std.proofs.Common.{◌≡◌, ℕ, ◌+◌, List, [], ◌∷◌, ◌++◌, map, length, false, true, sym, subst, inl, inr}
 use Rattle.std.proofs.lemmas.Bool.{cases_Bool, MatchBool-at_true, MatchBool-at_false}
 use Rattle.program_model.specs.declared.instr.Instr.{Instr}
 use Rattle.program_model.specs.Alphabet.{alphabet}
 use Rattle.program_model.specs.Program.{Program, empty, with_line, IsOpen}
-use Rattle.program_model.specs.Verdict.{Stood, AreStood, waiting, verdict}
+use Rattle.program_model.specs.declared.verdict.Verdict.TheVariants as verdicts
+use Rattle.program_model.specs.Verdict.{IsVerdict}
 use Rattle.refutation_tree.specs.Covers.{Child, children}
 use Rattle.synthesis.specs.Search.{Setting, State, judged, split, twin, Node, IsJudged, IsRoot, AreChildren, Splits, Leads, here, next, Close, SearchesSize}
 use Rattle.synthesis.proofs.Lists.{split_at}
@@ -19,7 +20,7 @@ module _ {C : Type 0} (s : Setting C) where
 
   -- the state of a node is that of a partial program
   abbrev pub HasState : Child → State → Type 0
-  HasState c (judged v) = (runs : List Stood) × AreStood s.machine c.program s.limit runs × (verdict runs ≡ v)
+  HasState c (judged verdict) = IsVerdict s.machine c.program s.limit verdict
   HasState c (split line stamp) = IsOpen c.program line
   HasState c twin = c.skipped ≡ true
 
@@ -33,7 +34,7 @@ module _ {C : Type 0} (s : Setting C) where
   grown_one c cs node rest state program is h k = (program, subst (HasState c) (sym is) h, subst (λ x. AreGrown (followers c.program x ++ cs) rest) (sym is) k)
 
   grown_judged : (c : Child) (cs : List Child) (node : Node) (rest : List Node) → node.program ≡ c.program → IsJudged s node → AreGrown cs rest → AreGrown (c ∷ cs) (node ∷ rest)
-  grown_judged c cs node rest program h k = grown_one c cs node rest (judged (verdict h.runs)) program h.state (h.runs, subst (λ q. AreStood s.machine q s.limit h.runs) program h.stood, refl) k
+  grown_judged c cs node rest program h k = grown_one c cs node rest (judged h.verdict) program h.state (subst (λ q. IsVerdict s.machine q s.limit h.verdict) program h.is_verdict) k
 
   made_grown : (parent : Program) (line : ℕ) (instrs : List Instr) (number : ℕ) (made : List Node) (cs : List Child) (rest : List Node) → AreChildren s parent line number instrs made → AreGrown cs rest →
       AreGrown (map (λ instr. record { program = with_line parent line instr; skipped = s.skips parent instr }) instrs ++ cs) (made ++ rest)
@@ -47,14 +48,14 @@ module _ {C : Type 0} (s : Setting C) where
         | inr kept ↦ grown_judged _ _ node _ h.0.program (MatchBool-at_false _ _ kept h.0.state) later
       ]
 
-  split_grown : (before : List Node) (node : Node) (made rest : List Node) (line stamp number : ℕ) (cs : List Child) → node.state ≡ judged (waiting line) → AreChildren s node.program line number (alphabet s.machine.ops (length node.program) line) made →
+  split_grown : (before : List Node) (node : Node) (made rest : List Node) (line stamp number : ℕ) (cs : List Child) → node.state ≡ judged (verdicts.Waiting line) → AreChildren s node.program line number (alphabet s.machine.ops (length node.program) line) made →
       AreGrown cs (before ++ node ∷ rest) → AreGrown cs (before ++ (record node { state = split line stamp } ∷ made) ++ rest)
   split_grown [] node made rest line stamp number [] waits h k = absurd k
   split_grown [] node made rest line stamp number (c ∷ cs) waits h k =
-      let judgement : HasState c (judged (waiting line)) = subst (HasState c) waits k.1 in
+      let judgement : HasState c (judged (verdicts.Waiting line)) = subst (HasState c) waits k.1 in
       let later : AreGrown cs rest = subst (λ x. AreGrown (followers c.program x ++ cs) rest) waits k.2 in (
         k.0,
-        waiting_is_open s.machine c.program s.limit judgement.0 line judgement.1 judgement.2,
+        waiting_is_open s.machine c.program s.limit line judgement,
         subst (λ q. AreGrown (children s.skips s.machine.ops q line ++ cs) (made ++ rest)) k.0
             (made_grown node.program line (alphabet s.machine.ops (length node.program) line) number made cs rest h later),
       )

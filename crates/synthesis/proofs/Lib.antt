@@ -3,13 +3,11 @@ pub mod Judging
 pub mod Growing
 pub mod Marking
 pub mod FilledPrograms
-pub mod Accepting
 pub mod SameNodes
 pub mod Numbered
 pub mod SameSizes
 pub mod SameAnswers
 pub mod Ends
-pub mod VerdictsFrom
 pub mod PlacesInLists
 pub mod MarksOfNodes
 pub mod SoundNodes
@@ -21,3 +19,6 @@ pub mod SoundEndings
 pub mod SizesInTurn
 pub mod Stamps
 pub mod Grammatical
+pub mod Accepting
+pub mod Closing
+pub mod Keys

@@ -2,7 +2,7 @@
 use Rattle.std.proofs.Common.{◌≡◌, List, [], ◌∷◌, map, refl, ap}
 use Rattle.synthesis.specs.declared.nodes.Entry.{Entry}
 use Rattle.synthesis.specs.Search.{Node, mark_of}
-use Rattle.synthesis.specs.Nodes.{state_of, node_of}
+use Rattle.synthesis.specs.Inner.Nodes.{state_of, node_of}
 
 pub marks_of_nodes : (entries : List Entry) → map (λ (entry : Entry). mark_of (state_of entry.state)) entries ≡ map (λ (node : Node). mark_of node.state) (map node_of entries)
 marks_of_nodes [] = refl

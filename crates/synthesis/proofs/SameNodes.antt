@@ -1,44 +1,38 @@
--- The runs of a partial program have one list of outcomes, so a node is fixed by its number and its program.
-use Rattle.std.proofs.Common.{◌≡◌, ℕ, ◌+◌, List, [], ◌∷◌, refl, sym, ◌∙◌, ap, inl, inr, arith}
+-- There is one verdict on a partial program, so a node is fixed by its number and its program.
+use Rattle.std.proofs.Common.{◌≡◌, ℕ, ◌+◌, ◌<◌, List, [], ◌∷◌, refl, sym, ◌∙◌, ap, inl, inr}
 use Rattle.std.specs.List.{AllByRecursion as Each}
 use Rattle.std.proofs.lemmas.Bool.{cases_Bool, MatchBool-at_true, MatchBool-at_false}
 use Rattle.program_model.specs.declared.instr.Instr.{Instr}
-use Rattle.program_model.specs.Semantics.{Semantics}
 use Rattle.program_model.specs.Program.{Program, IsPartial}
-use Rattle.program_model.specs.Verdict.{Stood, AreStood, AreStoodFrom, is_refuting, verdict}
-use Rattle.interpreter.proofs.SameOutcomes.{same_stood}
-use Rattle.synthesis.specs.Search.{Setting, judged, Node, IsJudged, IsRoot, IsChild, AreChildren}
+use Rattle.program_model.specs.declared.verdict.Verdict.{Verdict}
+use Rattle.program_model.specs.declared.verdict.Verdict.TheVariants as verdicts
+use Rattle.program_model.specs.Verdict.{IsVerdict}
+use Rattle.program_model.proofs.Verdicts.{same_verdict}
+use Rattle.program_model.proofs.Outcomes.{same_outcomes}
+use Rattle.synthesis.specs.Search.{Setting, judged, Node, HasKey, IsJudged, IsRoot, IsChild, AreChildren}
 
 node_by : (x y : Node) → x.number ≡ y.number → x.program ≡ y.program → x.state ≡ y.state → x.key ≡ y.key → x ≡ y
 node_by x y number program state key =
     let same : ◌≡◌ {A = Node} (record { number = x.number; program = x.program; state = x.state; key = x.key }) y = rw (number, program, state, key) refl in same
-
-module _ {C : Type 0} (m : Semantics C) (ops : ℕ) (q : Program) (limit : ℕ) (partial : IsPartial ops q) where
-  pub same_runs : (xs ys : List Stood) (t : ℕ) → AreStoodFrom m q limit t xs → AreStoodFrom m q limit t ys → xs ≡ ys
-  same_runs [] [] t h k = refl
-  same_runs [] (y ∷ ys) t h k = let within = k.1.within in let here = k.0 in absurd (omega arith)
-  same_runs (x ∷ xs) [] t h k = let within = h.1.within in let here = h.0 in absurd (omega arith)
-  same_runs (x ∷ xs) (y ∷ ys) t h k =
-      let same = same_stood m ops q limit partial x y (h.0 ∙ sym k.0) h.1 k.1 in
-      let standing : y.standing ≡ x.standing = ap (λ (z : Stood). z.standing) (sym same) in
-      let rest : xs ≡ ys = elim (cases_Bool (is_refuting x.standing)) [
-        | inl refutes ↦ MatchBool-at_true _ _ refutes h.2 ∙ sym (MatchBool-at_true _ _ (ap is_refuting standing ∙ refutes) k.2)
-        | inr goes_on ↦ same_runs xs ys (t + 1) (MatchBool-at_false _ _ goes_on h.2) (MatchBool-at_false _ _ (ap is_refuting standing ∙ goes_on) k.2)
-      ] in
-      rw (same, rest) refl
 
 module _ {C : Type 0} (s : Setting C) where
   -- a node of a partial program
   abbrev pub HasPartial : Node → Type 0
   HasPartial node = IsPartial s.machine.ops node.program
 
+  same_key : (q : Program) (k l : List ℕ) (verdict : Verdict) → IsPartial s.machine.ops q → HasKey s q k verdict → HasKey s q l verdict → k ≡ l
+  same_key q k l (verdicts.Refused t cause) partial one other = one ∙ sym other
+  same_key q k l (verdicts.AtLimit t) partial one other = one ∙ sym other
+  same_key q k l (verdicts.Waiting line) partial one other =
+      one.2 ∙ ap (s.key_of q) (same_outcomes s.machine s.machine.ops q s.limit partial one.0 other.0 0 one.1 other.1) ∙ sym other.2
+  same_key q k l verdicts.Solved partial one other = one ∙ sym other
+
   same_judged : (x y : Node) → x.number ≡ y.number → x.program ≡ y.program → HasPartial x → IsJudged s x → IsJudged s y → x ≡ y
   same_judged x y number program partial h k =
-      let stood : AreStood s.machine x.program s.limit k.runs = rw program k.stood in
-      let runs : h.runs ≡ k.runs = same_runs s.machine s.machine.ops x.program s.limit partial h.runs k.runs 0 h.stood stood in
-      node_by x y number program
-      (h.state ∙ ap (λ r. judged (verdict r)) runs ∙ sym k.state)
-      (h.key ∙ ap (s.key_of x.program) runs ∙ ap (λ q. s.key_of q k.runs) program ∙ sym k.key)
+      let other : IsVerdict s.machine x.program s.limit k.verdict = rw program k.is_verdict in
+      let verdict : h.verdict ≡ k.verdict = same_verdict s.machine s.machine.ops x.program s.limit partial (λ t. t < s.machine.instances) h.verdict k.verdict h.is_verdict other in
+      let key : HasKey s x.program y.key h.verdict = rw (program, verdict) k.key in
+      node_by x y number program (h.state ∙ ap judged verdict ∙ sym k.state) (same_key x.program x.key y.key h.verdict partial h.key key)
 
   pub same_root : (size : ℕ) (x y : Node) → HasPartial x → IsRoot s size x → IsRoot s size y → x ≡ y
   same_root size x y partial h k = same_judged x y (h.number ∙ sym k.number) (h.program ∙ sym k.program) partial h.is_judged k.is_judged

@@ -6,7 +6,7 @@ use Rattle.std.proofs.lemmas.Bool.{cases_eq, cases_order, cond-true, cond-false,
 use Rattle.std.proofs.lemmas.List.Elements.{All-contains}
 use Rattle.std.proofs.lemmas.Option.{none-some, same_Some}
 use Rattle.program_model.specs.Alphabet.{alphabet}
-use Rattle.program_model.specs.Verdict.{waiting}
+use Rattle.program_model.specs.declared.verdict.Verdict.TheVariants as verdicts
 use Rattle.program_model.proofs.Places.{contains_at}
 use Rattle.synthesis.specs.Search.{Setting, judged, split, Node, is_waiting, comes_before, IsRoot, AreChildren, Splits, Close, found, run_spent, budget_spent, refuted, Closes, StaysOpen, Leads, here, next, SearchesSize}
 use Rattle.refutation_tree.proofs.Lists.{each_left, each_right}
@@ -31,7 +31,7 @@ before_or_same (x ∷ xs) (y ∷ ys) a b h g = elim (cases_eq x y) [
 
 module _ {C : Type 0} (s : Setting C) where
   -- a node that is judged to wait at a line waits
-  waits_here : (node : Node) (line : ℕ) → node.state ≡ judged (waiting line) → is_waiting node ≡ true
+  waits_here : (node : Node) (line : ℕ) → node.state ≡ judged (verdicts.Waiting line) → is_waiting node ≡ true
   waits_here node line e = rw e refl
 
   -- no node that another split takes comes before the one that is split

@@ -7,7 +7,7 @@ use Rattle.std.proofs.lemmas.Option.{slice_get_within}
 use Rattle.std.proofs.lemmas.List.{map-append}
 use Rattle.synthesis.specs.declared.nodes.Entry.{Entry}
 use Rattle.synthesis.specs.Search.{Setting, Node, IsChild, AreChildren}
-use Rattle.synthesis.specs.Nodes.{node_of, nodes_of}
+use Rattle.synthesis.specs.Inner.Nodes.{node_of, nodes_of}
 use Rattle.synthesis.proofs.PlacesInLists.{take_seen}
 
 pub children_more : {C : Type 0} (s : Setting C) (parent : Program) (line first number : ℕ) (instrs : List Instr) (nodes : List Node) (instr : Instr) (node : Node) → AreChildren s parent line first instrs nodes → number ≡ first + length instrs → IsChild s parent line number instr node → AreChildren s parent line first (instrs ++ instr ∷ []) (nodes ++ node ∷ [])

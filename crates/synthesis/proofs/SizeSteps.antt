@@ -1,7 +1,7 @@
 -- The search of a size, split after split.
 use Rattle.std.proofs.Common.{◌≡◌, ℕ, ◌+◌, List, [], ◌∷◌}
 use Rattle.synthesis.specs.Search.{Setting, Node, Close, IsRoot, StaysOpen, Closes, Splits, here, next, SearchesSize}
-use Rattle.synthesis.specs.Nodes.{HasCome}
+use Rattle.synthesis.specs.Inner.Nodes.{HasCome}
 
 pub size_starts : {C : Type 0} (s : Setting C) (budget size stamp : ℕ) (root : Node) (nodes : List Node) → IsRoot s size root → nodes ≡ root ∷ [] → HasCome s budget size stamp stamp nodes
 size_starts s budget size stamp root nodes is_root e = record { root = root; is_root = is_root; leads = rw e here }

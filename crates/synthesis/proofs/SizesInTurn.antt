@@ -10,7 +10,7 @@ use Rattle.synthesis.specs.declared.turn.Ending.{Ending}
 use Rattle.synthesis.specs.declared.turn.Ending.TheVariants as endings
 use Rattle.synthesis.specs.Search.{Setting, Node, SearchesSize}
 use Rattle.synthesis.specs.Answers.{tree_of, RefutesSizes, none, next, Fills, Concludes, closed, nothing, IsAnswer}
-use Rattle.synthesis.specs.Nodes.{close_of}
+use Rattle.synthesis.specs.Inner.Nodes.{close_of}
 use Rattle.synthesis.proofs.Ends.{ends_extend}
 
 module _ {C : Type 0} (s : Setting C) (budget : ℕ) where

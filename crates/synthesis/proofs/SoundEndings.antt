@@ -3,18 +3,19 @@ use Rattle.std.proofs.Common.{◌≡◌, ℕ, List, [], ◌∷◌, Option, Some,
 use Rattle.std.proofs.lemmas.Option.{none-some, same_Some}
 use Rattle.std.proofs.lemmas.List.Elements.{All-head, All-tail}
 use Rattle.program_model.specs.Program.{Program, IsPartial}
-use Rattle.program_model.specs.Verdict.{refused, limited, waiting, solved}
+use Rattle.program_model.specs.declared.verdict.Verdict.TheVariants as verdicts
+use Rattle.program_model.specs.Verdict.{IsVerdict}
 use Rattle.synthesis.specs.declared.nodes.Entry.{Entry}
 use Rattle.synthesis.specs.declared.turn.Ending.{Ending}
 use Rattle.synthesis.specs.declared.turn.Ending.TheVariants as endings
 use Rattle.synthesis.specs.Search.{Setting, State, judged, split, twin, solved_program, or_else, first_solved, Closes}
-use Rattle.synthesis.specs.Nodes.{node_of, nodes_of, close_of, HasVerdict, IsSound, AreSound, IsEndingOn}
+use Rattle.synthesis.specs.Inner.Nodes.{node_of, nodes_of, close_of, IsSound, AreSound, IsEndingOn}
 
-is_solved : (state : State) (program q : Program) → solved_program state program ≡ Some q → (state ≡ judged solved) × (program ≡ q)
-is_solved (judged (refused x)) program q e = absurd (none-some q e)
-is_solved (judged (limited t)) program q e = absurd (none-some q e)
-is_solved (judged (waiting here)) program q e = absurd (none-some q e)
-is_solved (judged solved) program q e = (refl, same_Some program q e)
+is_solved : (state : State) (program q : Program) → solved_program state program ≡ Some q → (state ≡ judged verdicts.Solved) × (program ≡ q)
+is_solved (judged (verdicts.Refused at cause)) program q e = absurd (none-some q e)
+is_solved (judged (verdicts.AtLimit t)) program q e = absurd (none-some q e)
+is_solved (judged (verdicts.Waiting here)) program q e = absurd (none-some q e)
+is_solved (judged verdicts.Solved) program q e = (refl, same_Some program q e)
 is_solved (split at stamp) program q e = absurd (none-some q e)
 is_solved twin program q e = absurd (none-some q e)
 
@@ -22,7 +23,7 @@ first_or_later : {X : Type 0} (first later : Option X) (x : X) → or_else first
 first_or_later None later x e = inr e
 first_or_later (Some y) later x e = inl e
 
-solved_among : {C : Type 0} (s : Setting C) (entries : List Entry) (q : Program) → AreSound s entries → first_solved (nodes_of entries) ≡ Some q → IsPartial s.machine.ops q × HasVerdict s.machine q s.limit solved
+solved_among : {C : Type 0} (s : Setting C) (entries : List Entry) (q : Program) → AreSound s entries → first_solved (nodes_of entries) ≡ Some q → IsPartial s.machine.ops q × IsVerdict s.machine q s.limit verdicts.Solved
 solved_among s [] q are e = absurd (none-some q e)
 solved_among s (entry ∷ entries) q are e =
     let Sound : Entry → Type 0 = λ one. IsSound s (node_of one) in
@@ -30,7 +31,7 @@ solved_among s (entry ∷ entries) q are e =
       | inl here ↦
           let both = is_solved (node_of entry).state entry.program q here in
           let sound : IsSound s (node_of entry) = All-head Sound entry entries are in
-          (subst (IsPartial s.machine.ops) both.1 sound.is_partial, subst (λ p. HasVerdict s.machine p s.limit solved) both.1 (sound.judging solved both.0))
+          (subst (IsPartial s.machine.ops) both.1 sound.is_partial, subst (λ p. IsVerdict s.machine p s.limit verdicts.Solved) both.1 (sound.judging verdicts.Solved both.0))
       | inr later ↦ solved_among s entries q (All-tail Sound entry entries are) later
     ]
 

@@ -7,7 +7,7 @@ use Rattle.std.proofs.lemmas.Option.{same_Some}
 use Rattle.synthesis.specs.declared.nodes.Entry.{Entry}
 use Rattle.synthesis.specs.declared.turn.Waiting.{Waiting}
 use Rattle.synthesis.specs.Search.{Setting, Node, waits_at, is_waiting, comes_before, Splits}
-use Rattle.synthesis.specs.Nodes.{node_of, nodes_of, state_of, IsSound, AreSound, ComesFirst, AreFamily}
+use Rattle.synthesis.specs.Inner.Nodes.{node_of, nodes_of, state_of, IsSound, AreSound, ComesFirst, AreFamily}
 use Rattle.synthesis.proofs.SoundNodes.{waiting_at}
 use Rattle.synthesis.proofs.FirstNodes.{node_at}
 

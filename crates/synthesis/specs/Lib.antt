@@ -1,5 +1,3 @@
-pub mod Standings
 pub mod Search
 pub mod Answers
-pub mod Nodes
-pub mod Filling
+pub mod Inner

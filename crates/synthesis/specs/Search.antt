@@ -6,18 +6,22 @@ use Rattle.program_model.specs.declared.instr.Instr.{Instr}
 use Rattle.program_model.specs.Alphabet.{alphabet}
 use Rattle.program_model.specs.Semantics.{Semantics}
 use Rattle.program_model.specs.Program.{Program, empty, with_line}
-use Rattle.program_model.specs.Standing.{Standing, ended, unmet, waits, loops, at_limit}
-use Rattle.program_model.specs.Verdict.{Stood, AreStood, Verdict, refused, limited, waiting, solved, verdict}
+use Rattle.program_model.specs.declared.outcome.RunOutcome.{RunOutcome}
+use Rattle.program_model.specs.declared.verdict.Cause.TheVariants as causes
+use Rattle.program_model.specs.declared.verdict.Verdict.{Verdict}
+use Rattle.program_model.specs.declared.verdict.Verdict.TheVariants as verdicts
+use Rattle.program_model.specs.Outcome.{AreOutcomes}
+use Rattle.program_model.specs.Verdict.{IsVerdict}
 use Rattle.refutation_tree.specs.declared.evidence.Mark.{Mark}
 use Rattle.refutation_tree.specs.declared.evidence.Mark.TheVariants as marks
 use Rattle.refutation_tree.specs.Covers.{Skips, nobody}
 
--- what a search is over: a machine, the limit of steps of a run, the key of a waiting node by its program and its runs, and
--- which children are passed over
+-- what a search is over: a machine, the limit of steps of a run, the key of a waiting node by its program and the outcomes of
+-- its runs, and which children are passed over
 pub record Setting (C : Type 0) : Type 0 where
   pub machine : Semantics C
   pub limit : ℕ
-  pub key_of : Program → List Stood → List ℕ
+  pub key_of : Program → List RunOutcome → List ℕ
   pub skips : Skips
 
 -- the search in which every key is empty and no child is passed over
@@ -37,12 +41,19 @@ pub record Node : Type 0 where
   pub state : State
   pub key : List ℕ
 
--- the node is judged by the verdict on its program's runs, and has their key
+-- a node that waits has the key of its program and its runs, and no other node has one
+abbrev pub HasKey : {C : Type 0} → Setting C → Program → List ℕ → Verdict → Type 0
+HasKey s q key (verdicts.Refused t cause) = key ≡ []
+HasKey s q key (verdicts.AtLimit t) = key ≡ []
+HasKey s q key (verdicts.Waiting line) = (runs : List RunOutcome) × AreOutcomes s.machine q s.limit runs × (key ≡ s.key_of q runs)
+HasKey s q key verdicts.Solved = key ≡ []
+
+-- the node is judged by the verdict on its program
 pub record IsJudged {C : Type 0} (s : Setting C) (node : Node) : Type 0 where
-  pub runs : List Stood
-  pub stood : AreStood s.machine node.program s.limit runs
-  pub state : node.state ≡ judged (verdict runs)
-  pub key : node.key ≡ s.key_of node.program runs
+  pub verdict : Verdict
+  pub is_verdict : IsVerdict s.machine node.program s.limit verdict
+  pub state : node.state ≡ judged verdict
+  pub key : HasKey s node.program node.key verdict
 
 -- the root of a size: the empty program of so many lines, as node 0
 pub record IsRoot {C : Type 0} (s : Setting C) (size : ℕ) (node : Node) : Type 0 where
@@ -64,10 +75,10 @@ AreChildren s parent line number _ _ = ⊥
 
 -- the line at which a node waits to be split, if it does
 abbrev pub waits_at : State → Option ℕ
-waits_at (judged (refused x)) = None
-waits_at (judged (limited t)) = None
-waits_at (judged (waiting line)) = Some line
-waits_at (judged solved) = None
+waits_at (judged (verdicts.Refused t cause)) = None
+waits_at (judged (verdicts.AtLimit t)) = None
+waits_at (judged (verdicts.Waiting line)) = Some line
+waits_at (judged verdicts.Solved) = None
 waits_at (split line stamp) = None
 waits_at twin = None
 
@@ -89,7 +100,7 @@ pub record Splits {C : Type 0} (s : Setting C) (stamp : ℕ) (old new : List Nod
   pub line : ℕ
   pub made : List Node
   pub here : slice_get old place ≡ Some node
-  pub waits : node.state ≡ judged (waiting line)
+  pub waits : node.state ≡ judged (verdicts.Waiting line)
   pub least : All (λ (other : Node). is_waiting other ≡ true → comes_before other.key other.number node.key node.number ≡ false) old
   pub children : AreChildren s node.program line (length old) (alphabet s.machine.ops (length node.program) line) made
   pub after : new ≡ take place old ++ (record node { state = split line stamp } ∷ made) ++ drop (place + 1) old
@@ -104,19 +115,19 @@ pub data Close : Type 0 where
 
 -- the program of a node that is solved
 abbrev pub solved_program : State → Program → Option Program
-solved_program (judged (refused x)) q = None
-solved_program (judged (limited t)) q = None
-solved_program (judged (waiting line)) q = None
-solved_program (judged solved) q = Some q
+solved_program (judged (verdicts.Refused t cause)) q = None
+solved_program (judged (verdicts.AtLimit t)) q = None
+solved_program (judged (verdicts.Waiting line)) q = None
+solved_program (judged verdicts.Solved) q = Some q
 solved_program (split line stamp) q = None
 solved_program twin q = None
 
 -- the instance on which a node is at the limit
 abbrev pub limited_at : State → Option ℕ
-limited_at (judged (refused x)) = None
-limited_at (judged (limited t)) = Some t
-limited_at (judged (waiting line)) = None
-limited_at (judged solved) = None
+limited_at (judged (verdicts.Refused t cause)) = None
+limited_at (judged (verdicts.AtLimit t)) = Some t
+limited_at (judged (verdicts.Waiting line)) = None
+limited_at (judged verdicts.Solved) = None
 limited_at (split line stamp) = None
 limited_at twin = None
 
@@ -151,6 +162,11 @@ pub data Leads {C : Type 0} (s : Setting C) (budget from : ℕ) (start : List No
   here : Leads s budget from start from start
   next : (stamp : ℕ) (nodes after : List Node) → Leads s budget from start stamp nodes → StaysOpen budget stamp nodes → Splits s stamp nodes after → Leads s budget from start (stamp + 1) after
 
+-- the nodes that the last split made, or those at the start, where none was made
+abbrev pub newest : {C : Type 0} (s : Setting C) (budget from : ℕ) (start : List Node) (stamp : ℕ) (nodes : List Node) → Leads s budget from start stamp nodes → List Node
+newest s budget from start stamp nodes here = start
+newest s budget from start stamp nodes (next before old after leads stays splits) = splits.made
+
 -- the search of a size, from its root to the first nodes at which it is closed; the stamps run on from one number to another
 pub record SearchesSize {C : Type 0} (s : Setting C) (budget size from to : ℕ) (nodes : List Node) (close : Close) : Type 0 where
   pub root : Node
@@ -158,19 +174,12 @@ pub record SearchesSize {C : Type 0} (s : Setting C) (budget size from to : ℕ)
   pub leads : Leads s budget from (root ∷ []) to nodes
   pub closes : Closes budget to nodes close
 
--- how a node is marked that the run on an instance refuses
-abbrev pub refusal_mark : ℕ → ℕ → Standing → Mark
-refusal_mark t steps unmet = marks.Unmet t steps
-refusal_mark t steps (loops i j) = marks.Loops t i j
-refusal_mark t steps ended = marks.Solved
-refusal_mark t steps (waits line) = marks.Waiting
-refusal_mark t steps at_limit = marks.AtLimit t
-
 -- how a node is marked in the tree of its size
 abbrev pub mark_of : State → Mark
-mark_of (judged (refused x)) = refusal_mark x.instance x.steps x.standing
-mark_of (judged (limited t)) = marks.AtLimit t
-mark_of (judged (waiting line)) = marks.Waiting
-mark_of (judged solved) = marks.Solved
+mark_of (judged (verdicts.Refused t (causes.Unmet steps))) = marks.Unmet t steps
+mark_of (judged (verdicts.Refused t (causes.Loops from to))) = marks.Loops t from to
+mark_of (judged (verdicts.AtLimit t)) = marks.AtLimit t
+mark_of (judged (verdicts.Waiting line)) = marks.Waiting
+mark_of (judged verdicts.Solved) = marks.Solved
 mark_of (split line stamp) = marks.Split line stamp
 mark_of twin = marks.Twin

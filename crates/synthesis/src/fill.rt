@@ -1,14 +1,14 @@
 ghost use Rattle.std.specs.Prelude.{◌+◌, ◌<◌, ◌≤◌, length};
 ghost use Rattle.program_model.specs.Program.{IsPartial};
 ghost use Rattle.synthesis.specs.Answers.{Fills};
-ghost use Rattle.synthesis.specs.Filling.{FillsBelow};
+ghost use Rattle.synthesis.specs.Inner.Filling.{FillsBelow};
 
 use program_model::{MAX_LINES, MAX_OPS, Partial, instr_at};
 
-/// The rank of the instruction that fills an undefined line.
+// The rank of the instruction that fills an undefined line.
 const FILLING_RANK: u32 = 0;
 
-/// Fills a line, where it is undefined, if the lines before it were filled.
+// Fills a line, where it is undefined, if the lines before it were filled.
 fn fill_line(ops: u32, partial: &Partial, program: &mut Partial, line: u8)
     requires some { 0 < ops }
     requires few { ops ≤ MAX_OPS }

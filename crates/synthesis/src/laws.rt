@@ -1,33 +1,46 @@
-ghost use Rattle.std.specs.Prelude.{◌≡◌, ℕ, ◌<◌, ◌≤◌};
+ghost use Rattle.std.specs.Prelude.{◌≡◌, ℕ, ◌<◌, ◌≤◌, List, [], ◌∷◌};
 ghost use Rattle.program_model.specs.declared.alphabet.TheConstants.{MAX_LINES};
 ghost use Rattle.program_model.specs.declared.machine.TheConstants.{MAX_INSTANCES, MAX_POINTERS};
 ghost use Rattle.refutation_tree.specs.declared.evidence.Answer.{Answer};
 ghost use Rattle.refutation_tree.specs.declared.limits.TheConstants.{MAX_SPLITS, MAX_STEPS};
 ghost use Rattle.refutation_tree.specs.Accepted.{IsAccepted};
-ghost use Rattle.refutation_tree.specs.Grammar.{IsFromOneTo, IsGrammatical};
-ghost use Rattle.synthesis.specs.Search.{Setting};
+ghost use Rattle.refutation_tree.specs.Grammar.{IsFromOneTo};
+ghost use Rattle.synthesis.specs.Search.{Setting, Node, Leads, newest, first_solved, first_limited};
 ghost use Rattle.synthesis.specs.Answers.{IsAnswer};
 
-/// A law over all machines that have an operation: the answer of a search is accepted, whatever orders the nodes that wait
-/// and whichever children are passed over.
-pub fn searched_answers_are_accepted<C>()
-    ensures { (setting : Setting C) (budget lines : ℕ) (answer : Answer) →
-        0 < setting.machine.ops → IsAnswer setting budget lines answer →
-        IsAccepted setting.machine setting.skips lines answer }
+use crate::{BUDGET, RUN_LIMIT};
+
+/// A law: the limits of a search, as numbers.
+pub fn limits_in_numbers()
+    ensures budget { BUDGET ≡ 10000 }
+    ensures run { RUN_LIMIT ≡ 100000 }
 {}
 
-/// A law over all machines that have an operation: the answer of a search is of the grammar of answers, where the numbers of
-/// the machine, the lines, the budget and the limit of steps are in the ranges of the grammar.
-pub fn searched_answers_are_grammatical<C>()
+/// A law over all machines that have an operation: the answer of a search is accepted, whatever orders the nodes that wait
+/// and whichever children are passed over, where the numbers of the machine, the lines, the budget and the limit of steps are
+/// in the ranges of the grammar of answers.
+pub fn searched_answers_are_accepted<C>()
     ensures { (setting : Setting C) (budget lines : ℕ) (answer : Answer) →
         0 < setting.machine.ops → IsFromOneTo MAX_POINTERS setting.machine.pointers →
         IsFromOneTo MAX_INSTANCES setting.machine.instances → IsFromOneTo MAX_LINES lines →
-        budget ≤ MAX_SPLITS → setting.limit ≤ MAX_STEPS →
-        IsAnswer setting budget lines answer → IsGrammatical setting.machine.ops answer }
+        budget ≤ MAX_SPLITS → setting.limit ≤ MAX_STEPS → IsAnswer setting budget lines answer →
+        IsAccepted setting.machine setting.skips lines answer }
 {}
 
-/// A law over all machines: a search has one answer, with every mark, stamp and step in it.
-pub fn one_answer<C>()
+/// A law over all machines: a search has at most one answer, with every mark, stamp and step in it.
+pub fn at_most_one_answer<C>()
     ensures { (setting : Setting C) (budget lines : ℕ) (answer other : Answer) →
         IsAnswer setting budget lines answer → IsAnswer setting budget lines other → answer ≡ other }
+{}
+
+/// A law over all machines: a size closes at the children of its last split, or at its root before any split. Where splits
+/// have led to some nodes, and the size stayed open before each, the first node that is solved and the first at its limit
+/// are the first among the newest nodes.
+pub fn sizes_close_at_the_last_split<C>()
+    ensures solved { (setting : Setting C) (budget from stamp : ℕ) (root : Node) (nodes : List Node)
+        (leads : Leads setting budget from (root ∷ []) stamp nodes) →
+        first_solved nodes ≡ first_solved (newest setting budget from (root ∷ []) stamp nodes leads) }
+    ensures limited { (setting : Setting C) (budget from stamp : ℕ) (root : Node) (nodes : List Node)
+        (leads : Leads setting budget from (root ∷ []) stamp nodes) →
+        first_limited nodes ≡ first_limited (newest setting budget from (root ∷ []) stamp nodes leads) }
 {}

@@ -1,15 +1,11 @@
-ghost use Rattle.std.specs.Prelude.{◌≡◌, IfOk, map};
-ghost use Rattle.interpreter.specs.Standings.{standing_of};
-ghost use Rattle.synthesis.specs.Standings.{verdict_of};
-ghost use Rattle.synthesis.specs.Search.{judged, mark_of, refusal_mark};
-ghost use Rattle.synthesis.specs.Answers.{tree_of};
+ghost use Rattle.std.specs.Prelude.{◌≡◌, ◌+◌, ◌<◌, ◌++◌, IfOk, OnOk, map, take, drop, vec_len};
 ghost use Rattle.synthesis.specs.declared.nodes.Entry.{Entry};
-ghost use Rattle.synthesis.specs.Nodes.{state_of, node_of};
+ghost use Rattle.synthesis.specs.Search.{judged, split, mark_of, waits_at, solved_program, limited_at};
+ghost use Rattle.synthesis.specs.Answers.{tree_of};
+ghost use Rattle.synthesis.specs.Inner.Nodes.{state_of, node_of};
 
-use crate::standing::{RunOutcome, Verdict};
 use flag_rules::{List, OutOfMemory};
-use interpreter::Stand;
-use program_model::Partial;
+use program_model::{Cause, Partial, Verdict};
 use refutation_tree::{Mark, Tree};
 use std::alloc::Global;
 
@@ -22,6 +18,33 @@ pub(crate) enum State {
     Split { line: u8, stamp: u32 },
 }
 
+impl State {
+    /// The mark of a node in this state.
+    fn mark(&self) -> Mark
+        ensures { result ≡ mark_of (state_of self.now) }
+    {
+        match *self {
+            State::Judged(verdict) => mark_of_verdict(verdict),
+            State::Split { line, stamp } => Mark::Split { line, stamp },
+        }
+    }
+}
+
+// The mark of a node that was judged and not split.
+fn mark_of_verdict(verdict: Verdict) -> Mark
+    ensures { result ≡ mark_of (judged verdict) }
+{
+    match verdict {
+        Verdict::Refused { t, cause } => match cause {
+            Cause::Unmet { steps } => Mark::Unmet { t, steps },
+            Cause::Loops { from, to } => Mark::Loops { t, from, to },
+        },
+        Verdict::AtLimit { t } => Mark::AtLimit { t },
+        Verdict::Waiting { .. } => Mark::Waiting,
+        Verdict::Solved => Mark::Solved,
+    }
+}
+
 /// A node of the search of one size.
 #[derive(Debug, Drop)]
 pub(crate) struct Entry {
@@ -31,55 +54,50 @@ pub(crate) struct Entry {
     pub state: State,
 }
 
-impl RunOutcome {
-    /// The mark of a node that this run decides.
-    fn mark(&self) -> Mark
-        ensures { result ≡ refusal_mark self.now.instance self.now.run.steps (standing_of self.now.run.stand) }
+impl Entry {
+    /// The line where it waits, if it does.
+    pub(crate) fn waits_at(&self) -> Option<u8>
+        ensures { result ≡ waits_at (state_of self.now.state) }
     {
-        let t = self.instance;
-        match self.run.stand {
-            Stand::Ended => Mark::Solved,
-            Stand::Unmet => Mark::Unmet {
-                t,
-                steps: self.run.steps,
-            },
-            Stand::Waits { .. } => Mark::Waiting,
-            Stand::Loops { from, to } => Mark::Loops { t, from, to },
-            Stand::AtLimit => Mark::AtLimit { t },
+        match self.state {
+            State::Judged(Verdict::Waiting { line }) => Some(line),
+            _ => None,
+        }
+    }
+
+    /// Its program, if it is solved.
+    pub(crate) fn solved_program(&self) -> Option<Partial>
+        ensures { result ≡ solved_program (state_of self.now.state) self.now.program }
+    {
+        match self.state {
+            State::Judged(Verdict::Solved) => Some(self.program.copy()),
+            _ => None,
+        }
+    }
+
+    /// The instance on which a run is at its limit, if that is its verdict.
+    pub(crate) fn limited_at(&self) -> Option<u8>
+        ensures { result ≡ limited_at (state_of self.now.state) }
+    {
+        match self.state {
+            State::Judged(Verdict::AtLimit { t }) => Some(t),
+            _ => None,
+        }
+    }
+
+    /// The node once it is split.
+    pub(crate) fn split_at(&self, line: u8, stamp: u32) -> Entry
+        ensures { node_of result ≡ record (node_of self.now) { state = split line stamp } }
+    {
+        Entry {
+            number: self.number,
+            program: self.program.copy(),
+            state: State::Split { line, stamp },
         }
     }
 }
 
-impl Verdict {
-    /// The mark of a node with this verdict.
-    fn mark(&self) -> Mark
-        ensures { result ≡ mark_of (judged (verdict_of self.now)) }
-    {
-        match self {
-            Verdict::Refused(outcome) => outcome.mark(),
-            Verdict::AtLimit { t } => Mark::AtLimit { t: *t },
-            Verdict::Waiting { .. } => Mark::Waiting,
-            Verdict::Solved => Mark::Solved,
-        }
-    }
-}
-
-impl State {
-    /// The mark of a node in this state.
-    fn mark(&self) -> Mark
-        ensures { result ≡ mark_of (state_of self.now) }
-    {
-        match self {
-            State::Judged(verdict) => verdict.mark(),
-            State::Split { line, stamp } => Mark::Split {
-                line: *line,
-                stamp: *stamp,
-            },
-        }
-    }
-}
-
-/// The marks of some nodes, in order.
+// The marks of some nodes, in order.
 fn marks_of(alloc: Global, nodes: &[Entry]) -> Result<Vec<Mark>, OutOfMemory>
     ensures { IfOk result (λ marks. marks.items ≡ map (λ (entry : Entry). mark_of (state_of entry.state)) nodes.now) }
 {
@@ -94,4 +112,20 @@ pub(crate) fn tree_of(alloc: Global, size: u8, nodes: &[Entry]) -> Result<Tree, 
         size,
         marks: List::from_vec(marks_of(alloc, nodes)?),
     })
+}
+
+/// Puts some nodes in the place of one.
+pub(crate) fn put_in_place(
+    nodes: &mut Vec<Entry>,
+    place: usize,
+    mut put: Vec<Entry>,
+) -> Result<(), OutOfMemory>
+    requires { place < vec_len nodes.old }
+    ensures { OnOk result (nodes.new.items ≡ take place nodes.old.items ++ put.items ++ drop (place + 1) nodes.old.items) }
+{
+    let mut rest = nodes.split_off(place + 1)?;
+    nodes.truncate(place);
+    nodes.append(&mut put)?;
+    nodes.append(&mut rest)?;
+    Ok(())
 }

@@ -1,10 +1,9 @@
 ghost use Rattle.std.specs.Prelude.{◌≡◌, List, [], ◌∷◌, ◌++◌, map, Some, slice_get};
 ghost use Rattle.synthesis.specs.declared.nodes.Entry.{Entry};
-ghost use Rattle.synthesis.specs.Search.{waits_at, solved_program, limited_at, first_solved, first_limited};
-ghost use Rattle.synthesis.specs.Nodes.{state_of, node_of, nodes_of, IsFirstWaiting, IsTurn};
+ghost use Rattle.synthesis.specs.Search.{first_solved, first_limited};
+ghost use Rattle.synthesis.specs.Inner.Nodes.{node_of, nodes_of, IsFirstWaiting, IsTurn};
 
-use crate::nodes::{Entry, State};
-use crate::standing::Verdict;
+use crate::nodes::Entry;
 use program_model::Partial;
 
 /// A node that waits to be split.
@@ -36,39 +35,7 @@ pub(crate) enum Turn {
     Closed(Option<Ending>),
 }
 
-impl Entry {
-    /// The line where it waits, if it does.
-    fn waits_at(&self) -> Option<u8>
-        ensures { result ≡ waits_at (state_of self.now.state) }
-    {
-        match self.state {
-            State::Judged(Verdict::Waiting { line }) => Some(line),
-            _ => None,
-        }
-    }
-
-    /// Its program, if it is solved.
-    fn solved_program(&self) -> Option<Partial>
-        ensures { result ≡ solved_program (state_of self.now.state) self.now.program }
-    {
-        match self.state {
-            State::Judged(Verdict::Solved) => Some(self.program.copy()),
-            _ => None,
-        }
-    }
-
-    /// The instance on which a run is at its limit, if that is its verdict.
-    fn limited_at(&self) -> Option<u8>
-        ensures { result ≡ limited_at (state_of self.now.state) }
-    {
-        match self.state {
-            State::Judged(Verdict::AtLimit { t }) => Some(t),
-            _ => None,
-        }
-    }
-}
-
-/// The program of the first node that is solved.
+// The program of the first node that is solved.
 fn first_solved(nodes: &[Entry]) -> Option<Partial>
     ensures { result ≡ first_solved (nodes_of nodes.now) }
 {
@@ -80,7 +47,7 @@ fn first_solved(nodes: &[Entry]) -> Option<Partial>
     None
 }
 
-/// The instance of the first node that is at the limit.
+// The instance of the first node that is at the limit.
 fn first_limited(nodes: &[Entry]) -> Option<u8>
     ensures { result ≡ first_limited (nodes_of nodes.now) }
 {
@@ -92,7 +59,7 @@ fn first_limited(nodes: &[Entry]) -> Option<u8>
     None
 }
 
-/// Which of a waiting node and the one at a place comes first, if that waits.
+// Which of a waiting node and the one at a place comes first, if that waits.
 fn earlier(best: Option<Waiting>, place: usize, node: &Entry) -> Option<Waiting>
     ensures { (entries among : List Entry) → IsFirstWaiting entries among best
         → slice_get entries place ≡ Some node.now → IsFirstWaiting entries (among ++ node.now ∷ []) result }
@@ -110,7 +77,7 @@ fn earlier(best: Option<Waiting>, place: usize, node: &Entry) -> Option<Waiting>
     }
 }
 
-/// The first of the nodes that wait, by their numbers.
+// The first of the nodes that wait, by their numbers.
 fn first_waiting(nodes: &[Entry]) -> Option<Waiting>
     ensures { IsFirstWaiting nodes.now nodes.now result }
 {

@@ -1,14 +1,13 @@
-use Rattle.std.proofs.Common.{◌+◌, refl, ◌∙◌, ap, arith}
+use Rattle.std.proofs.Common.{◌+◌, ◌∙◌, ap, arith}
 use Rattle.std.specs.Int.{from_bool}
 use Rattle.std.specs.Prelude.{◌==◌}
-use Rattle.interpreter.specs.Standings.{stood_of}
-use Rattle.instance_report.proofs.Telling.{byte_of, told_more, told_all, operations_made}
+use Rattle.instance_report.proofs.Telling.{byte_of, told_more, told_all, all_operations_made}
 use Rattle.instance_report.proofs.reporting.report.Goals as goal
 
 pub loop-t-preserved : goal.loop-t-preserved
 loop-t-preserved g c =
     let solved = c.from-solved.ensures ∙ ap from_bool c.is_solved.ensures ∙ byte_of _ in
-    told_more _ _ _ _ _ _ _ _ c.loop-t.invariant (stood_of c.loop-t.t c.in_ok-whole.whole) refl c.in_ok-whole.ensures.stood _ _ _ c.in_ok-add_run.ensures (ap (λ n. c.loop-t.solved + n) solved) c.in_ok-whole.ensures.acts
+    told_more _ _ _ _ _ _ _ _ c.loop-t.invariant c.in_ok-outcome.outcome c.in_ok-outcome.ensures.instance c.in_ok-outcome.ensures.outcome _ _ _ c.in_ok-add_run.ensures (ap (λ n. c.loop-t.solved + n) solved) (rw c.in_ok-outcome.ensures.instance c.in_ok-outcome.ensures.acts)
 
 pub returns-clause-reports : goal.returns-clause-reports
 returns-clause-reports g c =
@@ -17,4 +16,4 @@ returns-clause-reports g c =
 
 pub returns-clause-acts : goal.returns-clause-acts
 returns-clause-acts g c = λ runs are_runs.
-    operations_made _ _ _ _ _ _ _ _ _ c.requires.program.is_partial c.loop-t.invariant (omega (arith, c.instances-instances.ensures.value)) runs are_runs
+    all_operations_made _ _ _ _ _ _ _ _ _ c.requires.program.is_partial c.loop-t.invariant (omega (arith, c.instances-instances.ensures.value)) runs are_runs

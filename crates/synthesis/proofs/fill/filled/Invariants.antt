@@ -1,4 +1,4 @@
-use Rattle.synthesis.specs.Filling.{FillsBelow}
+use Rattle.synthesis.specs.Inner.Filling.{FillsBelow}
 use Rattle.synthesis.proofs.fill.filled.Given as goal
 
 abbrev pub invariant-loop-line : goal.invariant-loop-line

@@ -4,9 +4,9 @@ use Rattle.synthesis.proofs.judgement.ends_of.Goals as goal
 
 pub loop-t-preserved : goal.loop-t-preserved
 loop-t-preserved g c = λ later ends.
-    let solved = c.requires.solved in
-    let end = solved_ends _ _ c.requires.partial c.args.limit solved.0 solved.1 solved.2 _ c.in_ok-whole.ensures.stood in
-    rw (c.in_ok-push.ensures.ok, append_assoc) (c.loop-t.invariant (c.in_ok-whole.whole.steps ∷ later) (omega arith, end, ends))
+    let run = c.in_ok-outcome.ensures in
+    let end = solved_ends _ _ c.requires.partial c.args.limit c.requires.solved c.loop-t.t _ run.instance run.outcome in
+    rw (c.in_ok-push.ensures.ok, append_assoc) (c.loop-t.invariant (c.in_ok-outcome.outcome.steps ∷ later) (omega arith, end, ends))
 
 pub returns : goal.returns
 returns g c = rw (← append-nil c.loop-t.ends) (c.loop-t.invariant [] (omega arith))

@@ -1,6 +1,6 @@
 use Rattle.std.proofs.Common.{◌≡◌, drop}
 use Rattle.synthesis.specs.Search.{first_limited}
-use Rattle.synthesis.specs.Nodes.{nodes_of}
+use Rattle.synthesis.specs.Inner.Nodes.{nodes_of}
 use Rattle.synthesis.proofs.turn.first_limited.Given as goal
 
 abbrev pub invariant-loop-node : goal.invariant-loop-node

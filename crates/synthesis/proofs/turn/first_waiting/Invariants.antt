@@ -1,5 +1,5 @@
 use Rattle.std.proofs.Common.{take}
-use Rattle.synthesis.specs.Nodes.{IsFirstWaiting}
+use Rattle.synthesis.specs.Inner.Nodes.{IsFirstWaiting}
 use Rattle.synthesis.proofs.turn.first_waiting.Given as goal
 
 abbrev pub invariant-loop-place : goal.invariant-loop-place

@@ -1,7 +1,7 @@
 use Rattle.std.proofs.lemmas.List.Elements.{All-push}
 use Rattle.synthesis.specs.declared.nodes.Entry.{Entry}
 use Rattle.synthesis.specs.Search.{plain}
-use Rattle.synthesis.specs.Nodes.{node_of, IsSound}
+use Rattle.synthesis.specs.Inner.Nodes.{node_of, IsSound}
 use Rattle.synthesis.proofs.Siblings.{child_made}
 use Rattle.synthesis.proofs.searcher.Searcher.children.Goals as goal
 

@@ -1,7 +1,7 @@
 use Rattle.std.proofs.Common.{length, take}
 use Rattle.program_model.specs.Alphabet.{alphabet}
 use Rattle.synthesis.specs.Search.{plain, AreChildren}
-use Rattle.synthesis.specs.Nodes.{nodes_of, AreSound}
+use Rattle.synthesis.specs.Inner.Nodes.{nodes_of, AreSound}
 use Rattle.synthesis.proofs.searcher.Searcher.children.Given as goal
 
 abbrev pub invariant-loop-rank : goal.invariant-loop-rank

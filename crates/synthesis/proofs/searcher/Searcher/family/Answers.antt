@@ -1,5 +1,5 @@
 use Rattle.synthesis.specs.Search.{plain}
-use Rattle.synthesis.specs.Nodes.{node_of}
+use Rattle.synthesis.specs.Inner.Nodes.{node_of}
 use Rattle.synthesis.proofs.SoundNodes.{sound_open}
 use Rattle.synthesis.proofs.searcher.Searcher.family.Goals as goal
 

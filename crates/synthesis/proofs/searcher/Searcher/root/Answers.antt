@@ -1,6 +1,6 @@
 use Rattle.std.proofs.Common.{◌∙◌, ap}
 use Rattle.synthesis.specs.Search.{plain}
-use Rattle.synthesis.specs.Nodes.{node_of, nodes_of}
+use Rattle.synthesis.specs.Inner.Nodes.{node_of, nodes_of}
 use Rattle.synthesis.proofs.SizeSteps.{size_starts}
 use Rattle.synthesis.proofs.searcher.Searcher.root.Goals as goal
 

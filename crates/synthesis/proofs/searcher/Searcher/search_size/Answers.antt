@@ -1,5 +1,5 @@
 use Rattle.synthesis.specs.Search.{plain}
-use Rattle.synthesis.specs.Nodes.{nodes_of}
+use Rattle.synthesis.specs.Inner.Nodes.{nodes_of}
 use Rattle.synthesis.proofs.SizeSteps.{size_goes_on}
 use Rattle.synthesis.proofs.searcher.Searcher.search_size.Goals as goal
 

@@ -1,6 +1,6 @@
 use Rattle.std.proofs.Common.{◌-◌}
 use Rattle.synthesis.specs.Search.{plain}
-use Rattle.synthesis.specs.Nodes.{nodes_of, AreSound, HasCome}
+use Rattle.synthesis.specs.Inner.Nodes.{nodes_of, AreSound, HasCome}
 use Rattle.synthesis.proofs.searcher.Searcher.search_size.Given as goal
 
 abbrev pub invariant-loop-ending : goal.invariant-loop-ending

@@ -3,7 +3,7 @@ use Rattle.refutation_tree.specs.declared.evidence.Answer.{Answer}
 use Rattle.refutation_tree.specs.declared.evidence.Outcome.TheVariants.{Nothing}
 use Rattle.refutation_tree.specs.declared.evidence.Tree.{Tree}
 use Rattle.synthesis.specs.Search.{plain}
-use Rattle.synthesis.specs.Nodes.{nodes_of}
+use Rattle.synthesis.specs.Inner.Nodes.{nodes_of}
 use Rattle.synthesis.proofs.SoundEndings.{sound_ending}
 use Rattle.synthesis.proofs.SizesInTurn.{nothing_refuted, one_more_refuted, ended_answer, nothing_answer}
 use Rattle.synthesis.proofs.searcher.Searcher.search_sizes.Goals as goal

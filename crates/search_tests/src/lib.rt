@@ -1,0 +1,12 @@
+//! Tests of the crates on programs, runs, reports and the search, which has no code of its own: a crate with tests is proved
+//! twice, and these are proved here, once.
+#![tactic(auto)]
+
+#[cfg(test)]
+mod counters;
+#[cfg(test)]
+mod programs;
+#[cfg(test)]
+mod reports;
+#[cfg(test)]
+mod searches;
