@@ -17,7 +17,7 @@ use Rattle.program_text.specs.declared.refusal.ProgramRefusal.TheVariants.{TooLo
 use Rattle.program_text.specs.Names.{AreNames, IsOperationText}
 use Rattle.program_text.specs.Texts.{cond_text, jump_text, instr_text, program_line}
 use Rattle.program_text.specs.Lines.{is_blank}
-use Rattle.program_text.specs.Reading.{texts_of, MayStand, HasEnd, IsAstray, AreLinesOf, Says}
+use Rattle.program_text.specs.Reading.{texts_of, MayStand, HasEnd, IsMisplaced, AreLinesOf, Says}
 use Rattle.program_text.proofs.Puts.{line_of_some}
 use Rattle.program_text.proofs.Spelled.{IsPlain, jump_words, are_jump_words, join_jump, split_words, plain_instr, line_of_program}
 
@@ -129,10 +129,10 @@ program_ends texts program lines are =
     ∙ slice_get-map (program_line texts) program (length program - 1)
     ∙ ap (option_map (program_line texts)) last
 
-no_program : (texts : List (List ℕ)) (program : Program) (lines : List InstructionLine) (number : ℕ) → AreLinesOf texts program lines → IsAstray texts lines number → ⊥
+no_program : (texts : List (List ℕ)) (program : Program) (lines : List InstructionLine) (number : ℕ) → AreLinesOf texts program lines → IsMisplaced texts lines number → ⊥
 no_program texts program lines number are astray = astray.astray (lines_stand texts program lines are astray.place astray.line astray.here)
 
-same_number : (texts : List (List ℕ)) (lines : List InstructionLine) (a b : ℕ) → IsAstray texts lines a → IsAstray texts lines b → a ≡ b
+same_number : (texts : List (List ℕ)) (lines : List InstructionLine) (a b : ℕ) → IsMisplaced texts lines a → IsMisplaced texts lines b → a ≡ b
 same_number texts lines a b x y = elim (cases_order x.place y.place) [
   | inl same ↦
       let line : x.line ≡ y.line = same_Some x.line y.line (sym x.here ∙ ap (slice_get lines) same ∙ y.here) in

@@ -4,6 +4,7 @@ pub mod Turns
 pub mod Numbered
 pub mod SoFar
 pub mod Jumps
+pub mod Gathering
 pub mod Puts
 pub mod Spelled
 pub mod Apart

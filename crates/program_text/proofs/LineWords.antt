@@ -5,7 +5,8 @@ use Rattle.std.specs.List.{list_any, slice_split, onto_first, join_with_byte}
 use Rattle.std.specs.Char.{to_ascii_lowercase}
 use Rattle.std.proofs.lemmas.Bool.Decides.{nat_tests}
 use Rattle.std.proofs.lemmas.List.Elements.{filter-append}
-use Rattle.program_text.specs.Lines.{is_blank, has_items, with_word}
+use Rattle.program_text.specs.Lines.{is_blank, has_items}
+use Rattle.program_text.specs.Inner.Words.{with_word}
 
 -- ---- joined words, and one more
 

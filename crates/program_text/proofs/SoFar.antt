@@ -11,7 +11,7 @@ use Rattle.program_model.proofs.Alphabets.{contains_last}
 use Rattle.program_model.proofs.Programs.{line_within, line_at-with_line, line_at-with_other, length-empty, last-empty}
 use Rattle.program_text.specs.declared.lines.InstructionLine.{InstructionLine}
 use Rattle.program_text.specs.Texts.{instr_text, program_line}
-use Rattle.program_text.specs.Reading.{texts_of, MayStand, HasEnd, IsAstray, AreLinesOf}
+use Rattle.program_text.specs.Reading.{texts_of, MayStand, HasEnd, IsMisplaced, AreLinesOf}
 use Rattle.program_text.proofs.Puts.{line_of_some}
 
 -- the program has on a line an instruction of its alphabet with this text
@@ -64,7 +64,7 @@ one_more_read texts lines place program line instr so_far inner here allowed wri
     }
 
 pub astray_here : (texts : List (List ℕ)) (lines : List InstructionLine) (place : ℕ) (program : Program) (line : InstructionLine)
-    → IsReadTo texts lines place program → slice_get lines place ≡ Some line → (MayStand texts (length lines) place line.text → ⊥) → IsAstray texts lines line.number
+    → IsReadTo texts lines place program → slice_get lines place ≡ Some line → (MayStand texts (length lines) place line.text → ⊥) → IsMisplaced texts lines line.number
 astray_here texts lines place program line so_far here astray = record {
   place = place;
   line = line;

@@ -1,5 +1,5 @@
 -- The instruction lines of a program text.
-use Rattle.std.specs.Prelude.{ℕ, ◌+◌, Bool, true, false, ◌||◌, ◌==◌, not, if◌then◌else◌, List, [], ◌∷◌, ◌++◌, map, filter, take_while}
+use Rattle.std.specs.Prelude.{ℕ, ◌+◌, Bool, true, false, ◌||◌, ◌==◌, not, if◌then◌else◌, List, [], ◌∷◌, map, filter, take_while}
 use Rattle.std.specs.List.{slice_split, join_with_byte}
 use Rattle.std.specs.Char.{to_ascii_lowercase}
 use Rattle.program_text.specs.declared.lines.InstructionLine.{InstructionLine}
@@ -28,12 +28,6 @@ words_of_line line = filter has_items (slice_split is_blank (said_by_line line))
 -- the words of a line, joined by one space
 abbrev pub line_text : List ℕ → List ℕ
 line_text line = join_with_byte 32 (words_of_line line)
-
--- words that are joined so, and one more, if it has a byte
-abbrev pub with_word : List ℕ → List ℕ → List ℕ
-with_word text [] = text
-with_word [] (b ∷ bs) = b ∷ bs
-with_word (t ∷ ts) (b ∷ bs) = (t ∷ ts) ++ 32 ∷ b ∷ bs
 
 -- whether a line has a word, and so is an instruction line
 abbrev pub has_words : List ℕ → Bool

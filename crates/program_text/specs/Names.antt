@@ -2,6 +2,7 @@
 use Rattle.std.specs.Prelude.{◌≡◌, ◌≢◌, ◌<◌, ◌≤◌, ℕ, Bool, false, ◌&&◌, ◌==◌, not, nat_eq, nat_le, List, [], ◌∷◌, length, codes, IsTrue, All, AllPairs}
 use Rattle.std.specs.List.{list_all, starts_with, join_with_byte}
 use Rattle.flag_rules.specs.Name.{is_capital}
+use Rattle.program_model.specs.declared.alphabet.TheConstants.{MAX_OPS}
 
 -- a byte of a word: a visible one of ASCII, but for capital letters and the semicolon (59), which begins a comment
 abbrev pub is_word_byte : ℕ → Bool
@@ -28,6 +29,6 @@ pub record IsOperationText (text : List ℕ) : Type 0 where
 -- the texts of the operations of a machine: not too many, and no two the same
 pub record AreNames (texts : List (List ℕ)) : Type 0 where
   pub some : 0 < length texts
-  pub few : length texts ≤ 448
+  pub few : length texts ≤ MAX_OPS
   pub each : All IsOperationText texts
   pub apart : AllPairs (λ one other. one ≢ other) texts

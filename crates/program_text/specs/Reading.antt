@@ -1,5 +1,6 @@
 -- What a program text says: a program, or why it is none.
 use Rattle.std.specs.Prelude.{◌≡◌, ◌<◌, ◌≤◌, ℕ, ◌-◌, List, length, map, Some, slice_get, codes, Result, Ok, Err}
+use Rattle.program_model.specs.declared.alphabet.TheConstants.{MAX_LINES}
 use Rattle.program_model.specs.declared.instr.Instr.{Instr}
 use Rattle.program_model.specs.Program.{Program, IsInstr, IsProgram}
 use Rattle.program_text.specs.declared.lines.InstructionLine.{InstructionLine}
@@ -22,7 +23,7 @@ abbrev pub HasEnd : List InstructionLine → Type 0
 HasEnd lines = slice_get (texts_of lines) (length lines - 1) ≡ Some (codes "end")
 
 -- the first of the lines that may not stand at its place has this number
-pub record IsAstray (texts : List (List ℕ)) (lines : List InstructionLine) (number : ℕ) : Type 0 where
+pub record IsMisplaced (texts : List (List ℕ)) (lines : List InstructionLine) (number : ℕ) : Type 0 where
   pub place : ℕ
   pub line : InstructionLine
   pub here : slice_get lines place ≡ Some line
@@ -32,16 +33,16 @@ pub record IsAstray (texts : List (List ℕ)) (lines : List InstructionLine) (nu
 
 -- the lines are those of a program, in order
 pub record AreLinesOf (texts : List (List ℕ)) (program : Program) (lines : List InstructionLine) : Type 0 where
-  pub few : length lines ≤ 16
+  pub few : length lines ≤ MAX_LINES
   pub is_program : IsProgram (length texts) program
   pub same : map (program_line texts) program ≡ texts_of lines
 
 -- what instruction lines say. That there are too many comes first, and then that the last is not `end`
 abbrev pub Says : List (List ℕ) → List InstructionLine → Result Program ProgramRefusal → Type 0
 Says texts lines (Ok program) = AreLinesOf texts program lines
-Says texts lines (Err (TooLong count)) = (16 < length lines) × (count ≡ length lines)
-Says texts lines (Err NoEnd) = (length lines ≤ 16) × (HasEnd lines → ⊥)
-Says texts lines (Err (Line number)) = (length lines ≤ 16) × HasEnd lines × IsAstray texts lines number
+Says texts lines (Err (TooLong count)) = (MAX_LINES < length lines) × (count ≡ length lines)
+Says texts lines (Err NoEnd) = (length lines ≤ MAX_LINES) × (HasEnd lines → ⊥)
+Says texts lines (Err (Line number)) = (length lines ≤ MAX_LINES) × HasEnd lines × IsMisplaced texts lines number
 Says texts lines (Err OutOfMemory) = Unit {0}
 
 -- what a program text says, where these are the texts of the operations

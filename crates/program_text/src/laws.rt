@@ -7,10 +7,12 @@ ghost use Rattle.program_text.specs.Names.{AreNames};
 ghost use Rattle.program_text.specs.Texts.{instr_text, program_text};
 ghost use Rattle.program_text.specs.Reading.{Reads};
 
+use program_model::MAX_LINES;
+
 /// A law: a program that is written is read back as it was.
 pub fn written_programs_read_back()
     ensures { (texts : List (List ℕ)) (program : Program) →
-        AreNames texts → IsProgram (length texts) program → length program ≤ 16 →
+        AreNames texts → IsProgram (length texts) program → length program ≤ MAX_LINES →
         Reads texts (program_text texts program) (Ok program) }
 {}
 
@@ -24,7 +26,7 @@ pub fn one_answer()
 /// A law: no two instructions that may stand in a program have one text.
 pub fn texts_tell_instructions()
     ensures { (texts : List (List ℕ)) (lines i j : ℕ) (one other : Instr) →
-        AreNames texts → lines ≤ 16 → i < lines → j < lines →
+        AreNames texts → lines ≤ MAX_LINES → i < lines → j < lines →
         IsInstr (length texts) lines i one → IsInstr (length texts) lines j other →
         instr_text texts one ≡ instr_text texts other → one ≡ other }
 {}

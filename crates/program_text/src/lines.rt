@@ -1,7 +1,8 @@
 ghost use Rattle.std.specs.Prelude.{◌≡◌, ◌+◌, ◌≤◌, ◌++◌, ◌∷◌, [], length, not, ◌==◌, take_while, OnOk, IfOk};
-ghost use Rattle.program_text.specs.Lines.{lines_of_text, instruction_lines, numbered_from, line_text, with_word, has_words, is_blank};
+ghost use Rattle.program_text.specs.Lines.{instruction_lines, numbered_from, line_text, has_words, is_blank};
+ghost use Rattle.program_text.specs.Inner.Words.{with_word};
 
-use flag_rules::{List, OutOfMemory, Text};
+use flag_rules::{List, MAX_FILE_BYTES, OutOfMemory, Text};
 use std::alloc::Global;
 
 /// A line with words: its number among all lines of its text, from 1, and its words, joined by one space.
@@ -27,7 +28,7 @@ pub(crate) fn instruction_lines(
     alloc: Global,
     bytes: &[u8],
 ) -> Result<List<InstructionLine>, OutOfMemory>
-    requires { length bytes.now ≤ 1048576 }
+    requires { length bytes.now ≤ MAX_FILE_BYTES }
     ensures { IfOk result (λ lines. lines ≡ instruction_lines bytes.now) }
 {
     let mut lines = List::new(alloc);

@@ -6,15 +6,13 @@ ghost use Rattle.program_text.specs.Reading.{Reads, Says, MayStand, HasEnd};
 use crate::instr_texts::has_text;
 use crate::lines::{InstructionLine, count_lines, instruction_lines};
 use crate::{Names, ProgramRefusal};
+use flag_rules::MAX_FILE_BYTES;
 use program_model::{Instr, MAX_LINES, Partial, alphabet_len, instr_at};
 use std::alloc::Global;
 
-/// How many bytes a program text may have.
-pub const MAX_PROGRAM_TEXT: usize = 1_048_576;
-
 /// The program that a text says.
 pub fn read_program(alloc: Global, bytes: &[u8], names: &Names) -> Result<Partial, ProgramRefusal>
-    requires { length bytes.now ≤ MAX_PROGRAM_TEXT }
+    requires { length bytes.now ≤ MAX_FILE_BYTES }
     ensures { Reads names.now bytes.now result }
 {
     let count = count_lines(bytes);

@@ -1,13 +1,13 @@
-ghost use Rattle.std.specs.Prelude.{◌≡◌, ◌<◌, length, OnOk, OnErr};
+ghost use Rattle.std.specs.Prelude.{◌≡◌, ◌<◌, length};
 ghost use Rattle.flag_rules.specs.Line.{line};
-ghost use Rattle.bfgp_outside.specs.Causes.{HasCause};
-ghost use Rattle.bfgp_outside.specs.Sink.{Appends, AppendsPrefix};
+ghost use Rattle.bfgp_outside.specs.Sink.{Puts};
 ghost use Rattle.program_model.specs.Program.{IsProgram};
+ghost use Rattle.program_text.specs.Gathered.{Gathers};
 ghost use Rattle.program_text.specs.Texts.{instr_text, program_text, program_line, HasText};
 
-use crate::Names;
 use crate::instr_texts::jump_text;
-use bfgp_outside::{Sink, SinkFailed, put_all};
+use crate::{Gathered, Names};
+use bfgp_outside::{Sink, SinkFailed};
 use program_model::{Instr, Partial};
 
 /// How many bytes `write_instr` puts.
@@ -26,25 +26,11 @@ pub fn instr_len(names: &Names, instr: Instr) -> usize
 /// Puts an instruction in a line of its own. It takes no memory.
 pub fn write_instr<K: Sink>(sink: &mut K, names: &Names, instr: Instr) -> Result<(), SinkFailed>
     requires { HasText names.now instr }
-    ensures ok { OnOk result (Appends (K.written sink.old) (K.written sink.new) (line (instr_text names.now instr))) }
-    ensures err { OnErr result (AppendsPrefix (K.written sink.old) (K.written sink.new) (line (instr_text names.now instr))) }
-    ensures cause { HasCause (K.faults sink.old) (K.faults sink.new) result }
+    ensures { Puts K.written K.faults sink.old sink.new result (line (instr_text names.now instr)) }
 {
-    put_text(sink, names, instr)?;
-    put_all(sink, b"\n")
-}
-
-fn put_text<K: Sink>(sink: &mut K, names: &Names, instr: Instr) -> Result<(), SinkFailed>
-    requires { HasText names.now instr }
-    ensures ok { OnOk result (Appends (K.written sink.old) (K.written sink.new) (instr_text names.now instr)) }
-    ensures err { OnErr result (AppendsPrefix (K.written sink.old) (K.written sink.new) (instr_text names.now instr)) }
-    ensures cause { HasCause (K.faults sink.old) (K.faults sink.new) result }
-{
-    match instr {
-        Instr::Op(op) => put_all(sink, names.text(op)),
-        Instr::Goto { target, cond } => put_all(sink, jump_text(target, cond).as_slice()),
-        Instr::End => put_all(sink, b"end"),
-    }
+    let mut gathered = Gathered::new();
+    add_instr(sink, &mut gathered, names, instr)?;
+    gathered.put(sink)
 }
 
 /// Puts a program, each instruction in a line of its own. It takes no memory.
@@ -54,12 +40,44 @@ pub fn write_program<K: Sink>(
     program: &Partial,
 ) -> Result<(), SinkFailed>
     requires { IsProgram (length names.now) program.now }
-    ensures ok { OnOk result (Appends (K.written sink.old) (K.written sink.new) (program_text names.now program.now)) }
-    ensures err { OnErr result (AppendsPrefix (K.written sink.old) (K.written sink.new) (program_text names.now program.now)) }
-    ensures cause { HasCause (K.faults sink.old) (K.faults sink.new) result }
+    ensures { Puts K.written K.faults sink.old sink.new result (program_text names.now program.now) }
+{
+    let mut gathered = Gathered::new();
+    add_program(sink, &mut gathered, names, program)?;
+    gathered.put(sink)
+}
+
+/// Gathers a program, each instruction in a line of its own.
+pub fn add_program<K: Sink>(
+    sink: &mut K,
+    gathered: &mut Gathered,
+    names: &Names,
+    program: &Partial,
+) -> Result<(), SinkFailed>
+    requires { IsProgram (length names.now) program.now }
+    ensures { Gathers K.written K.faults sink.old sink.new gathered.old gathered.new result (program_text names.now program.now) }
 {
     for place in 0..program.lines() {
-        write_instr(sink, names, program.at(place).unwrap())?;
+        add_instr(sink, gathered, names, program.at(place).unwrap())?;
     }
     Ok(())
+}
+
+// Gathers an instruction in a line of its own.
+fn add_instr<K: Sink>(
+    sink: &mut K,
+    gathered: &mut Gathered,
+    names: &Names,
+    instr: Instr,
+) -> Result<(), SinkFailed>
+    requires { HasText names.now instr }
+    ensures { Gathers K.written K.faults sink.old sink.new gathered.old gathered.new result (line (instr_text names.now instr)) }
+{
+    match instr {
+        Instr::Op(op) => gathered.add_line(sink, names.text(op)),
+        Instr::Goto { target, cond } => {
+            gathered.add_line(sink, jump_text(target, cond).as_slice())
+        }
+        Instr::End => gathered.add_line(sink, b"end"),
+    }
 }

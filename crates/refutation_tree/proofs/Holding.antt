@@ -1,15 +1,20 @@
 -- What an accepted answer says holds: its program is least, and where it says that there is none, there is none.
-use Rattle.std.proofs.Common.{ℕ, ◌+◌, ◌<◌, ◌≤◌, List, [], ◌∷◌, length, subst, inl, inr, arith}
+use Rattle.std.proofs.Common.{◌≡◌, ℕ, zero, suc, ◌+◌, ◌<◌, ◌≤◌, List, [], ◌∷◌, map, length, Option, sym, ◌∙◌, subst, inl, inr, arith}
+use Rattle.std.specs.Prelude.{All, IfSome}
+use Rattle.std.specs.List.{range_with_len}
 use Rattle.std.proofs.lemmas.Bool.{cases_eq}
+use Rattle.std.proofs.lemmas.List.Elements.{All-head, All-tail}
 use Rattle.program_model.specs.Semantics.{Semantics}
 use Rattle.program_model.specs.Program.{Program, empty, IsProgram, Completes}
 use Rattle.program_model.specs.Run.{Solves, SolvesAll}
 use Rattle.program_model.proofs.Programs.{partial_empty, completes_empty}
 use Rattle.refutation_tree.specs.declared.evidence.Tree.{Tree}
+use Rattle.refutation_tree.specs.declared.evidence.Outcome.{Outcome}
 use Rattle.refutation_tree.specs.declared.evidence.Outcome.TheVariants.{Program as Found, Nothing}
 use Rattle.refutation_tree.specs.declared.evidence.Answer.{Answer}
 use Rattle.refutation_tree.specs.Covers.{Skips, IsFair}
-use Rattle.refutation_tree.specs.Accepted.{AreEndsFrom, CoverSizes, IsShown, NoneSolves, ShowsLeast}
+use Rattle.refutation_tree.specs.Grammar.{HasProgram, FitsOutcome, IsFromOneTo, last_size}
+use Rattle.refutation_tree.specs.Accepted.{AreEndsFrom, SaysRefuted, CoversRefuted, IsAccepted, NoneSolves, ShowsLeast}
 use Rattle.refutation_tree.proofs.Covering.{covered_refuted}
 
 -- a program whose runs end so, on the instances from one on, solves these
@@ -20,41 +25,57 @@ ends_solve m p (j ∷ js) t i h from within = elim (cases_eq t i) [
   | inr apart ↦ ends_solve m p js (t + 1) i h.2 (omega arith) within
 ]
 
-module _ {C : Type 0} (m : Semantics C) (skips : Skips) (fair : IsFair m skips) where
-  -- no program solves whose size is covered
-  sizes_refuted : (trees : List Tree) (size : ℕ) (p : Program) → CoverSizes m skips size trees → IsProgram m.ops p → size ≤ length p → length p < size + length trees → SolvesAll m p → ⊥
-  sizes_refuted [] size p h program from to solves = omega arith
-  sizes_refuted (tree ∷ trees) size p h program from to solves = elim (cases_eq (length p) size) [
-    | inl e ↦
-        let some = program.is_partial.some in
-        covered_refuted m skips fair (empty size) tree.marks p (partial_empty m.ops size (omega arith)) h.1
-        (subst (λ n. Completes m.ops p (empty n)) e (completes_empty m.ops p program)) solves
-    | inr apart ↦ sizes_refuted trees (size + 1) p h.2 program (omega arith) (omega arith) solves
-  ]
+abbrev sizes_of : List Tree → List ℕ
+sizes_of trees = map (λ (tree : Tree). tree.size) trees
 
-  pub shown_least : (lines size : ℕ) (a : Answer) → IsShown m skips lines a (Found size) → ShowsLeast m size lines a
-  shown_least lines size a h =
-      let it = h.2 in
+same_cons : {A : Type 0} {x y : A} {xs ys : List A} → x ∷ xs ≡ y ∷ ys → (x ≡ y) × (xs ≡ ys)
+same_cons e = (cc, cc)
+
+module _ {C : Type 0} (m : Semantics C) (skips : Skips) (fair : IsFair m skips) where
+  -- no program of a size solves that is said to be refuted, where its tree covers
+  size_refuted : (outcome : Outcome) (tree : Tree) (p : Program) → CoversRefuted m skips outcome tree → length p ≡ tree.size → IsProgram m.ops p → SaysRefuted outcome (length p) → SolvesAll m p → ⊥
+  size_refuted outcome tree p covers size_is program refuted solves =
+      let some = program.is_partial.some in
+      covered_refuted m skips fair (empty tree.size) tree.marks p (partial_empty m.ops tree.size (omega arith)) (covers (subst (SaysRefuted outcome) size_is refuted))
+      (subst (λ n. Completes m.ops p (empty n)) size_is (completes_empty m.ops p program)) solves
+
+  -- nor does one of any of the sizes that have a tree
+  sizes_refuted : (outcome : Outcome) (trees : List Tree) (size count : ℕ) (p : Program) → sizes_of trees ≡ range_with_len size count → All (CoversRefuted m skips outcome) trees → IsProgram m.ops p → size ≤ length p → length p < size + count → SaysRefuted outcome (length p) → SolvesAll m p → ⊥
+  sizes_refuted outcome trees size zero p sizes covered program from to refuted solves = omega arith
+  sizes_refuted outcome [] size (suc count) p sizes covered program from to refuted solves = cc
+  sizes_refuted outcome (tree ∷ trees) size (suc count) p sizes covered program from to refuted solves =
+      let same = same_cons sizes in
+      elim (cases_eq (length p) size) [
+        | inl e ↦ size_refuted outcome tree p (All-head (CoversRefuted m skips outcome) tree trees covered) (e ∙ sym same.0) program refuted solves
+        | inr apart ↦ sizes_refuted outcome trees (size + 1) count p same.1 (All-tail (CoversRefuted m skips outcome) tree trees covered) program (omega arith) (omega arith) refuted solves
+      ]
+
+  pub accepted_least : (lines size : ℕ) (a : Answer) → IsAccepted m skips lines a → a.outcome ≡ Found size → ShowsLeast m size lines a
+  accepted_least lines size a h is =
+      let it : HasProgram m.ops size a = subst (FitsOutcome m.ops a) is h.grammatical.outcome in
+      let within : IsFromOneTo a.lines size = subst (λ (o : Outcome). IsFromOneTo a.lines (last_size a.lines o)) is h.grammatical.size in
+      let sizes : sizes_of a.trees ≡ range_with_len 1 size = subst (λ (o : Outcome). sizes_of a.trees ≡ range_with_len 1 (last_size a.lines o)) is h.grammatical.sizes in
+      let ends : AreEndsFrom m it.program 0 a.ends = subst (λ (o : Option Program). IfSome o (λ program. AreEndsFrom m program 0 a.ends)) it.given h.ends in
+      let size_is = it.size_is in
+      let asked = h.asked in
       record {
         program = it.program;
         given = it.given;
         least = record {
           is_program = it.is_program;
-          solves = λ t within. ends_solve m it.program a.ends 0 t it.ends (omega arith) within;
+          solves = λ t within. ends_solve m it.program a.ends 0 t ends (omega arith) within;
           least = λ other program fewer solves.
-              let below = h.1 in
               let some = program.is_partial.some in
-              let size_is = it.size_is in
-              let count = below.count in
-              sizes_refuted below.below 1 other below.covered program (omega arith) (omega arith) solves;
+              sizes_refuted a.outcome a.trees 1 size other sizes h.covered program (omega arith) (omega arith) (subst (λ (o : Outcome). SaysRefuted o (length other)) (sym is) (omega arith)) solves;
         };
         size_is = it.size_is;
-        within = h.0;
-        ends = it.ends;
+        within = omega arith;
+        ends = ends;
       }
 
-  pub shown_none : (lines : ℕ) (a : Answer) → IsShown m skips lines a Nothing → NoneSolves m lines
-  shown_none lines a h p program within solves =
+  pub accepted_none : (lines : ℕ) (a : Answer) → IsAccepted m skips lines a → a.outcome ≡ Nothing → NoneSolves m lines
+  accepted_none lines a h is p program few solves =
       let some = program.is_partial.some in
-      let count = h.0 in
-      sizes_refuted a.trees 1 p h.1 program (omega arith) (omega arith) solves
+      let asked = h.asked in
+      let sizes : sizes_of a.trees ≡ range_with_len 1 a.lines = subst (λ (o : Outcome). sizes_of a.trees ≡ range_with_len 1 (last_size a.lines o)) is h.grammatical.sizes in
+      sizes_refuted a.outcome a.trees 1 a.lines p sizes h.covered program (omega arith) (omega arith) (subst (λ (o : Outcome). SaysRefuted o (length p)) (sym is) tt) solves

@@ -28,14 +28,14 @@ IsInRange instances marks.Solved = Unit {0}
 IsInRange instances (marks.AtLimit t) = t < instances
 
 -- the children of a partial program at a line: one for each instruction of the line's alphabet, in order
-abbrev pub children : ℕ → Program → ℕ → List Program
-children ops q line = map (with_line q line) (alphabet ops (length q) line)
+abbrev pub child_programs : ℕ → Program → ℕ → List Program
+child_programs ops q line = map (with_line q line) (alphabet ops (length q) line)
 
 -- the marks, read in preorder, are trees for these partial programs, one after another; a tree is one mark, or the split of an
 -- undefined line and a tree for each child
 abbrev pub AreTrees : ℕ → List Program → List Mark → Type 0
 AreTrees ops [] [] = Unit {0}
-AreTrees ops (q ∷ qs) (marks.Split line stamp ∷ ms) = IsOpen q line × AreTrees ops (children ops q line ++ qs) ms
+AreTrees ops (q ∷ qs) (marks.Split line stamp ∷ ms) = IsOpen q line × AreTrees ops (child_programs ops q line ++ qs) ms
 AreTrees ops (q ∷ qs) (_ ∷ ms) = AreTrees ops qs ms
 AreTrees ops _ _ = ⊥
 

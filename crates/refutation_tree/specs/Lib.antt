@@ -1,11 +1,3 @@
-pub mod Document
-pub mod Grammar
 pub mod Covers
+pub mod Grammar
 pub mod Accepted
-pub mod Reading
-pub mod Cuts
-pub mod Unread
-pub mod LineFacts
-pub mod Following
-pub mod ReadingOn
-pub mod Pending

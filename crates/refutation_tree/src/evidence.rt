@@ -1,7 +1,7 @@
 use flag_rules::List;
 use program_model::Partial;
 
-/// What a tree says of one partial program. Own.
+/// What a tree says of one partial program.
 #[derive(Clone, Copy, Debug, PartialEq, Eq, Drop)]
 pub enum Mark {
     /// It was split at an undefined line, as the split of this number from 0; its children follow, one for each
@@ -21,7 +21,7 @@ pub enum Mark {
     AtLimit { t: u8 },
 }
 
-/// The partial programs of one size, from the empty one on: the marks in preorder. Own.
+/// The partial programs of one size, from the empty one on: the marks in preorder.
 #[derive(Debug, Drop)]
 pub struct Tree {
     /// How many lines the programs have, from 1.
@@ -29,7 +29,7 @@ pub struct Tree {
     pub marks: List<Mark>,
 }
 
-/// How a search ended. Own.
+/// How a search ended.
 #[derive(Clone, Copy, Debug, PartialEq, Eq, Drop)]
 pub enum Outcome {
     /// A program of so many lines solves every instance.
@@ -42,7 +42,7 @@ pub enum Outcome {
     SpentRun { size: u8, t: u8 },
 }
 
-/// What a search found, with its evidence: a tree for each size that it came to, in order. Own.
+/// What a search found, with its evidence: a tree for each size that it came to, in order.
 #[derive(Debug, Drop)]
 pub struct Answer {
     /// How many pointers the machine has.

@@ -1,31 +1,19 @@
-ghost use Rattle.std.specs.Prelude.{◌≡◌, ◌≢◌, ℕ, List, length, Result, Ok, Err};
+ghost use Rattle.std.specs.Prelude.{◌≡◌, ℕ, List};
 ghost use Rattle.program_model.specs.Semantics.{Semantics};
 ghost use Rattle.program_model.specs.Program.{Program, IsPartial, Completes};
 ghost use Rattle.program_model.specs.Run.{SolvesAll};
-ghost use Rattle.program_text.specs.Names.{AreNames};
 ghost use Rattle.refutation_tree.specs.declared.evidence.Mark.{Mark};
 ghost use Rattle.refutation_tree.specs.declared.evidence.Outcome.TheVariants as outcomes;
 ghost use Rattle.refutation_tree.specs.declared.evidence.Answer.{Answer};
-ghost use Rattle.refutation_tree.specs.declared.refusal.AnswerRefusal.{AnswerRefusal};
-ghost use Rattle.refutation_tree.specs.declared.refusal.AnswerRefusal.TheVariants.{OutOfMemory};
 ghost use Rattle.refutation_tree.specs.Accepted.{IsAccepted, ShowsLeast, NoneSolves};
 ghost use Rattle.refutation_tree.specs.Covers.{Skips, nobody, IsCovered, IsFair};
-ghost use Rattle.refutation_tree.specs.Document.{document};
-ghost use Rattle.refutation_tree.specs.Grammar.{IsGrammatical};
-ghost use Rattle.refutation_tree.specs.Reading.{Reads};
 
-/// A law: an answer that is written is read back as it was, but for want of memory.
-pub fn written_answers_read_back()
-    ensures { (texts : List (List ℕ)) (answer : Answer) (result : Result Answer AnswerRefusal) →
-        AreNames texts → IsGrammatical (length texts) answer →
-        Reads texts (document texts answer) result → result ≢ Err OutOfMemory → result ≡ Ok answer }
-{}
+use crate::{MAX_SPLITS, MAX_STEPS};
 
-/// A law: bytes are the document of at most one answer, or go astray at one line, but for want of memory.
-pub fn one_answer()
-    ensures { (texts : List (List ℕ)) (bytes : List ℕ) (one other : Result Answer AnswerRefusal) →
-        AreNames texts → Reads texts bytes one → Reads texts bytes other →
-        one ≢ Err OutOfMemory → other ≢ Err OutOfMemory → one ≡ other }
+/// A law: the limits of what an answer tells, as numbers.
+pub fn limits_in_numbers()
+    ensures steps { MAX_STEPS ≡ 10000000 }
+    ensures splits { MAX_SPLITS ≡ 100000 }
 {}
 
 /// A law over all machines: where marks cover a partial program, and passing over loses no solution, no program that

@@ -5,7 +5,8 @@ use Rattle.std.specs.Char.{to_ascii_lowercase}
 use Rattle.std.proofs.lemmas.List.{map-append}
 use Rattle.std.proofs.lemmas.Iterator.Consumers.{YieldsList-at}
 use Rattle.std.proofs.lemmas.Iterator.Splits.{YieldsList-from_slice_split}
-use Rattle.program_text.specs.Lines.{is_blank, has_items, with_word, said_by_line}
+use Rattle.program_text.specs.Lines.{is_blank, has_items, said_by_line}
+use Rattle.program_text.specs.Inner.Words.{with_word}
 use Rattle.program_text.proofs.Turns.{all_yielded}
 use Rattle.program_text.proofs.LineWords.{join_more}
 use Rattle.program_text.proofs.lines.line_text.Goals as goal

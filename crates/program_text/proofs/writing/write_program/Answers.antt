@@ -1,22 +1,11 @@
-use Rattle.std.proofs.Common.{◌∙◌, sym, arith}
-use Rattle.bfgp_outside.proofs.Written.{on_err}
-use Rattle.program_text.proofs.Puts.{program_has_text, put_more, put_part}
+use Rattle.program_text.specs.Texts.{program_text}
+use Rattle.program_text.proofs.Gathering.{gathered_put, stopped_put}
 use Rattle.program_text.proofs.writing.write_program.Goals as goal
 
-pub write_instr-requires : goal.write_instr-requires
-write_instr-requires g c = program_has_text c.args.names.now c.args.program.now c.loop-place.place c.unwrap.result c.requires (sym c.at.ensures.value ∙ c.unwrap.ensures)
+pub returns-in_err-add_program : goal.returns-in_err-add_program
+returns-in_err-add_program g c =
+    stopped_put g.K.Sink.written g.K.Sink.faults c.args.sink.now c.add_program.new.sink c.new-gathered.result c.add_program.new.gathered c.in_err-add_program.field-0.0 c.from_residual.result (program_text c.args.names.now c.args.program.now) c.new-gathered.ensures c.from_residual.ensures.0 c.in_err-add_program.ensures
 
-pub returns-in_err-write_instr-clause-err : goal.returns-in_err-write_instr-clause-err
-returns-in_err-write_instr-clause-err g c =
-    let written = g.K.Sink.written in
-    on_err c.from_residual.result (put_part c.args.names.now c.args.program.now c.loop-place.place c.unwrap.result (written c.args.sink.now) (written c.loop-place.sink) (written c.write_instr.new.sink)
-    (sym c.at.ensures.value ∙ c.unwrap.ensures) c.loop-place.invariant.so_far c.in_err-write_instr.ensures.err)
-
-pub loop-place-preserved : goal.loop-place-preserved
-loop-place-preserved g c =
-    let written = g.K.Sink.written in
-    record {
-      so_far = put_more c.args.names.now c.args.program.now c.loop-place.place c.unwrap.result (written c.args.sink.now) (written c.loop-place.sink) (written c.write_instr.new.sink)
-          (sym c.at.ensures.value ∙ c.unwrap.ensures) c.loop-place.invariant.so_far c.in_ok-write_instr.ensures.ok;
-      later = omega (arith, c.write_instr.ensures.cause.later);
-    }
+pub returns : goal.returns
+returns g c =
+    gathered_put g.K.Sink.written g.K.Sink.faults c.args.sink.now c.add_program.new.sink c.put.new.sink c.new-gathered.result c.add_program.new.gathered c.in_ok-add_program.field-0 c.put.result (program_text c.args.names.now c.args.program.now) c.new-gathered.ensures c.in_ok-add_program.ensures c.put.ensures.puts
