@@ -2,7 +2,7 @@
 use Rattle.std.proofs.Common.{◌≡◌, ℕ, ◌<◌, ◌≤◌, ◌^◌, List, length, sym, ◌∙◌, subst, arith}
 use Rattle.program_model.specs.declared.alphabet.TheConstants.{MAX_LINES}
 use Rattle.program_model.specs.Program.{Program, IsOpen}
-use Rattle.refutation_tree.specs.declared.limits.TheConstants.{MAX_STEPS, MAX_SPLITS}
+use Rattle.refutation_tree.specs.declared.ranges.TheConstants.{MAX_STEPS, MAX_SPLITS}
 use Rattle.refutation_tree.specs.declared.evidence.Mark.{Mark}
 use Rattle.refutation_tree.specs.declared.evidence.Mark.TheVariants as marks
 use Rattle.refutation_tree.specs.Grammar.{IsInRange}

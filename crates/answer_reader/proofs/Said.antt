@@ -18,7 +18,7 @@ use Rattle.program_model.proofs.Places.{get-append_left, get-append_right}
 use Rattle.program_model.proofs.Programs.{length-empty, line_within}
 use Rattle.program_text.specs.Texts.{instr_text, program_line}
 use Rattle.answer_reader.specs.declared.heading.Heading.{Heading}
-use Rattle.refutation_tree.specs.declared.limits.TheConstants.{MAX_STEPS}
+use Rattle.refutation_tree.specs.declared.ranges.TheConstants.{MAX_STEPS}
 use Rattle.refutation_tree.specs.declared.evidence.Mark.{Mark}
 use Rattle.refutation_tree.specs.declared.evidence.Mark.TheVariants as marks
 use Rattle.refutation_tree.specs.declared.evidence.Tree.{Tree}

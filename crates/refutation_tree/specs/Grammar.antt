@@ -5,7 +5,7 @@ use Rattle.program_model.specs.declared.alphabet.TheConstants.{MAX_LINES}
 use Rattle.program_model.specs.declared.machine.TheConstants.{MAX_INSTANCES, MAX_POINTERS}
 use Rattle.program_model.specs.Alphabet.{alphabet}
 use Rattle.program_model.specs.Program.{Program, empty, with_line, IsOpen, IsProgram}
-use Rattle.refutation_tree.specs.declared.limits.TheConstants.{MAX_STEPS, MAX_SPLITS}
+use Rattle.refutation_tree.specs.declared.ranges.TheConstants.{MAX_STEPS, MAX_SPLITS}
 use Rattle.refutation_tree.specs.declared.evidence.Mark.{Mark}
 use Rattle.refutation_tree.specs.declared.evidence.Mark.TheVariants as marks
 use Rattle.refutation_tree.specs.declared.evidence.Tree.{Tree}

@@ -11,7 +11,7 @@ ghost use Rattle.refutation_tree.specs.Covers.{Skips, nobody, IsCovered, IsFair}
 use crate::{MAX_SPLITS, MAX_STEPS};
 
 /// A law: the limits of what an answer tells, as numbers.
-pub fn limits_in_numbers()
+pub fn limits()
     ensures steps { MAX_STEPS ≡ 10000000 }
     ensures splits { MAX_SPLITS ≡ 100000 }
 {}

@@ -6,11 +6,10 @@
 
 mod evidence;
 mod laws;
-mod limits;
+mod ranges;
 
 pub use evidence::{Answer, Mark, Outcome, Tree};
 pub use laws::{
-    accepted_answers_hold, covered_programs_do_not_solve, limits_in_numbers,
-    passing_nobody_over_is_fair,
+    accepted_answers_hold, covered_programs_do_not_solve, limits, passing_nobody_over_is_fair,
 };
-pub use limits::{MAX_SPLITS, MAX_STEPS};
+pub use ranges::{MAX_SPLITS, MAX_STEPS};

@@ -5,7 +5,7 @@ use Rattle.std.proofs.lemmas.List.Elements.{All-nil, All-cons, All-append, All-w
 use Rattle.program_model.specs.declared.alphabet.TheConstants.{MAX_LINES}
 use Rattle.program_model.specs.declared.machine.TheConstants.{MAX_INSTANCES, MAX_POINTERS}
 use Rattle.program_model.specs.Program.{Program, empty}
-use Rattle.refutation_tree.specs.declared.limits.TheConstants.{MAX_SPLITS, MAX_STEPS}
+use Rattle.refutation_tree.specs.declared.ranges.TheConstants.{MAX_SPLITS, MAX_STEPS}
 use Rattle.refutation_tree.specs.declared.evidence.Tree.{Tree}
 use Rattle.refutation_tree.specs.declared.evidence.Outcome.{Outcome}
 use Rattle.refutation_tree.specs.declared.evidence.Outcome.TheVariants as outcomes

@@ -14,7 +14,7 @@ use Rattle.program_model.specs.declared.verdict.Cause.TheVariants as causes
 use Rattle.program_model.specs.declared.verdict.Verdict.TheVariants as verdicts
 use Rattle.program_model.specs.Verdict.{IsVerdict}
 use Rattle.program_model.proofs.Runs.{same_end}
-use Rattle.refutation_tree.specs.declared.limits.TheConstants.{MAX_SPLITS, MAX_STEPS}
+use Rattle.refutation_tree.specs.declared.ranges.TheConstants.{MAX_SPLITS, MAX_STEPS}
 use Rattle.refutation_tree.specs.declared.evidence.Mark.{Mark}
 use Rattle.refutation_tree.specs.declared.evidence.Tree.{Tree}
 use Rattle.refutation_tree.specs.declared.evidence.Outcome.{Outcome}

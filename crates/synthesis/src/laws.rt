@@ -2,7 +2,7 @@ ghost use Rattle.std.specs.Prelude.{◌≡◌, ℕ, ◌<◌, ◌≤◌, List, []
 ghost use Rattle.program_model.specs.declared.alphabet.TheConstants.{MAX_LINES};
 ghost use Rattle.program_model.specs.declared.machine.TheConstants.{MAX_INSTANCES, MAX_POINTERS};
 ghost use Rattle.refutation_tree.specs.declared.evidence.Answer.{Answer};
-ghost use Rattle.refutation_tree.specs.declared.limits.TheConstants.{MAX_SPLITS, MAX_STEPS};
+ghost use Rattle.refutation_tree.specs.declared.ranges.TheConstants.{MAX_SPLITS, MAX_STEPS};
 ghost use Rattle.refutation_tree.specs.Accepted.{IsAccepted};
 ghost use Rattle.refutation_tree.specs.Grammar.{IsFromOneTo};
 ghost use Rattle.synthesis.specs.Search.{Setting, Node, Leads, newest, first_solved, first_limited};
@@ -11,7 +11,7 @@ ghost use Rattle.synthesis.specs.Answers.{IsAnswer};
 use crate::{BUDGET, RUN_LIMIT};
 
 /// A law: the limits of a search, as numbers.
-pub fn limits_in_numbers()
+pub fn limits()
     ensures budget { BUDGET ≡ 10000 }
     ensures run { RUN_LIMIT ≡ 100000 }
 {}

@@ -5,17 +5,16 @@
 //! code holds on the way.
 #![tactic(auto)]
 
+mod bounds;
 mod fill;
 mod judgement;
 mod laws;
-mod limits;
 mod nodes;
 mod searcher;
 mod turn;
 
+pub use bounds::{BUDGET, RUN_LIMIT};
 pub use laws::{
-    at_most_one_answer, limits_in_numbers, searched_answers_are_accepted,
-    sizes_close_at_the_last_split,
+    at_most_one_answer, limits, searched_answers_are_accepted, sizes_close_at_the_last_split,
 };
-pub use limits::{BUDGET, RUN_LIMIT};
 pub use searcher::search;

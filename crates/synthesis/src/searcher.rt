@@ -6,9 +6,9 @@ ghost use Rattle.synthesis.specs.Search.{plain, waits_at, IsJudged, IsChild, Are
 ghost use Rattle.synthesis.specs.Answers.{Concludes, IsAnswer};
 ghost use Rattle.synthesis.specs.Inner.Nodes.{node_of, nodes_of, state_of, close_of, IsSound, AreSound, IsEndingOn, ComesFirst, AreFamily, HasCome};
 
+use crate::bounds::{BUDGET, RUN_LIMIT};
 use crate::fill::filled;
 use crate::judgement::{ends_of, judge};
-use crate::limits::{BUDGET, RUN_LIMIT};
 use crate::nodes::{Entry, State, put_in_place, tree_of};
 use crate::turn::{Ending, Turn, Waiting, next_turn};
 use flag_rules::{List, OutOfMemory};

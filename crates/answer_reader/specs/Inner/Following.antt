@@ -6,7 +6,7 @@ use Rattle.program_model.specs.declared.machine.TheConstants.{MAX_INSTANCES, MAX
 use Rattle.program_model.specs.Program.{Program, empty, IsOpen, IsInstr}
 use Rattle.program_text.specs.Texts.{instr_text}
 use Rattle.answer_reader.specs.declared.heading.Heading.{Heading}
-use Rattle.refutation_tree.specs.declared.limits.TheConstants.{MAX_STEPS}
+use Rattle.refutation_tree.specs.declared.ranges.TheConstants.{MAX_STEPS}
 use Rattle.refutation_tree.specs.declared.evidence.Mark.{Mark}
 use Rattle.refutation_tree.specs.declared.evidence.Mark.TheVariants as marks
 use Rattle.refutation_tree.specs.declared.evidence.Tree.{Tree}

@@ -1,6 +1,6 @@
 use Rattle.std.proofs.Common.{◌≡◌, ◌≢◌, ◌≤◌, ℕ, List, ◌++◌}
 use Rattle.std.specs.Prelude.{codes}
-use Rattle.refutation_tree.specs.declared.limits.TheConstants.{MAX_STEPS}
+use Rattle.refutation_tree.specs.declared.ranges.TheConstants.{MAX_STEPS}
 use Rattle.flag_rules.specs.Line.{then_number}
 use Rattle.answer_reader.proofs.Taken.{no_line_left, told_by, none_more}
 use Rattle.answer_reader.proofs.next_lines.read_steps.Goals as goal
