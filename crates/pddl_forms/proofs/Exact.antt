@@ -6,7 +6,7 @@ use Rattle.pddl_forms.specs.declared.formulas.Terms.{Terms}
 use Rattle.pddl_forms.specs.declared.formulas.Terms.TheVariants.{Names, NamesAndVariables}
 use Rattle.pddl_forms.specs.declared.texts.Word.{Word}
 use Rattle.pddl_forms.specs.declared.texts.AtomText.{AtomText}
-use Rattle.pddl_forms.specs.Lexemes.{Lexeme, left, right, name, variable}
+use Rattle.pddl_forms.specs.Lexemes.{Lexeme, right, name, variable}
 use Rattle.pddl_forms.specs.Forms.{is_reserved, word, IsNameWord, is_name_word, IsHead, is_head, IsTerm, is_constant, is_argument, Many, IsAtom, is_atom, Closed, closed}
 use Rattle.pddl_forms.specs.Inner.Reading.{Read, got, stuck, and_then, comes, any_word, head, many, term, atom_body, atom, closed_item}
 use Rattle.pddl_forms.proofs.Fronts.{and_then-cases, same_got, mark-left, mark-right}

@@ -14,14 +14,14 @@
 --
 -- One rule more has no text of bytes: in `names` and `vars` a group may end with `- (` and a gap in place of its type. It
 -- is there for the places of refusals alone.
-use Rattle.std.specs.Prelude.{◌≡◌, ℕ, Bool, true, false, List, [], ◌∷◌, ◌++◌, map, Option, Some, None, codes, bytes_eq}
+use Rattle.std.specs.Prelude.{◌≡◌, ℕ, Bool, false, List, [], ◌∷◌, ◌++◌, map, Option, Some, None, codes, bytes_eq}
 use Rattle.std.specs.List.{list_any}
 use Rattle.pddl_forms.specs.declared.texts.Word.{Word}
 use Rattle.pddl_forms.specs.declared.texts.Typed.{Typed}
 use Rattle.pddl_forms.specs.declared.texts.AtomText.{AtomText}
 use Rattle.pddl_forms.specs.declared.texts.AtomChange.{AtomChange}
 use Rattle.pddl_forms.specs.declared.texts.AtomChange.TheVariants.{Added, Deleted}
-use Rattle.pddl_forms.specs.Lexemes.{Lexeme, left, right, name, variable, keyword, dash, gap}
+use Rattle.pddl_forms.specs.Lexemes.{Lexeme, left, right, name, variable, dash, gap}
 
 -- one of some words
 abbrev pub is_one_of : List (List ℕ) → List ℕ → Bool

@@ -12,11 +12,11 @@ use Rattle.pddl_forms.specs.declared.texts.AtomChange.{AtomChange}
 use Rattle.pddl_forms.specs.declared.texts.AtomChange.TheVariants.{Added, Deleted}
 use Rattle.pddl_forms.specs.Lexemes.{Lexeme, left, right, name, dash, gap}
 use Rattle.pddl_parser.specs.Grammar
-use Rattle.pddl_forms.specs.Forms.{word, typed, IsNameWord, is_name_word, IsVariableWord, is_variable_word, Many, Closed, closed}
+use Rattle.pddl_forms.specs.Forms.{word, typed, IsNameWord, IsVariableWord, is_variable_word, Many, Closed, closed}
 use Rattle.pddl_parser.specs.Grammar.{or_empty, IsRequirement, Opened, opened, IsSection, is_section, IsPart, is_part, IsOpening, is_opening}
 use Rattle.pddl_forms.specs.Forms.{Group, last, with_next, TypedList, untyped_words, typed_group, open_group, IsGroundAtom, IsLiftedAtom, Conjunction, IsChange, added, deleted, IsNames, IsVariables}
 use Rattle.pddl_parser.specs.Grammar.{IsPredicate}
-use Rattle.pddl_parser.specs.Grammar.{ActionParts, no_parts, IsParts, action_of, IsAction, is_action, DomainSections, no_domain_sections, IsDomainSections, IsDomain, is_domain, ProblemSections, no_problem_sections, IsProblemSections, IsProblem, is_problem}
+use Rattle.pddl_parser.specs.Grammar.{ActionParts, no_parts, IsParts, IsAction, is_action, DomainSections, no_domain_sections, IsDomainSections, IsDomain, is_domain, ProblemSections, no_problem_sections, IsProblemSections, IsProblem, is_problem}
 use Rattle.pddl_forms.specs.Inner.Reading.{comes}
 use Rattle.pddl_parser.specs.Spelled.{IsActionWithin, IsDomainWithin, IsProblemWithin}
 use Rattle.pddl_forms.proofs.ItemSteps.{IsItem, Many-count}

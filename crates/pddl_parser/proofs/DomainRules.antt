@@ -5,13 +5,12 @@ use Rattle.pddl_forms.specs.declared.stop.Why.{Why}
 use Rattle.pddl_parser.specs.declared.texts.PredText.{PredText}
 use Rattle.pddl_parser.specs.declared.texts.DomainText.{DomainText}
 use Rattle.pddl_forms.specs.Lexemes.{Lexeme, left, right, keyword}
-use Rattle.pddl_forms.specs.Forms.{word, is_reserved, Many, IsHead, is_head}
-use Rattle.pddl_parser.specs.Grammar.{IsSection, is_section}
+use Rattle.pddl_forms.specs.Forms.{Many}
+use Rattle.pddl_parser.specs.Grammar.{is_section}
 use Rattle.pddl_forms.specs.Inner.Reading.{got, stuck, and_then, comes, many}
 use Rattle.pddl_forms.specs.Offending.{domain_keywords, Offends}
 use Rattle.pddl_parser.specs.Grammar
-use Rattle.pddl_forms.specs.Forms.{IsVariables}
-use Rattle.pddl_parser.specs.Grammar.{IsPredicate, is_predicate, DomainSections, no_domain_sections, IsDomainSections, domain_of, IsDomain, is_domain}
+use Rattle.pddl_parser.specs.Grammar.{IsPredicate, is_predicate, DomainSections, no_domain_sections, IsDomainSections, IsDomain, is_domain}
 use Rattle.pddl_parser.specs.Inner.Choosing.{choice_of, all_of}
 use Rattle.pddl_parser.specs.Inner.SectionReading.{predicate, domain_choices, section_of, domain_sections, domain}
 use Rattle.pddl_forms.proofs.Fronts.{and_then-cases, same_got, mark-left}

@@ -4,15 +4,12 @@ use Rattle.pddl_lexer.specs.declared.lexer.Kind.TheVariants.{RightParen, Variabl
 use Rattle.pddl_parser.specs.declared.texts.ActionText.{ActionText}
 use Rattle.pddl_forms.specs.declared.formulas.Terms.TheVariants.{NamesAndVariables}
 use Rattle.pddl_forms.specs.Lexemes.{Lexeme, left, right, keyword}
-use Rattle.pddl_forms.specs.Forms.{word, Many, IsHead, Conjunction, IsLiftedAtom, IsChange, IsNameWord}
-use Rattle.pddl_parser.specs.Grammar.{IsPart, is_part, IsSection, is_section}
+use Rattle.pddl_parser.specs.Grammar.{is_part}
 use Rattle.pddl_forms.specs.Inner.Reading.{Read, got, stuck, and_then, comes, in_list}
-use Rattle.pddl_forms.specs.Forms.{is_one_of}
-use Rattle.pddl_forms.specs.Offending.{requirement_keywords}
 use Rattle.pddl_forms.specs.Offending.{domain_keywords, part_keywords}
 use Rattle.pddl_parser.specs.Grammar
 use Rattle.pddl_forms.specs.Forms.{IsVariables}
-use Rattle.pddl_parser.specs.Grammar.{Opened, opened, IsPredicate, is_predicate, ActionParts, no_parts, IsParts, action_of, IsAction, is_action}
+use Rattle.pddl_parser.specs.Grammar.{Opened, opened, ActionParts, no_parts, IsParts, IsAction, is_action}
 use Rattle.pddl_forms.specs.Inner.TypedReading.{typed_list}
 use Rattle.pddl_parser.specs.Inner.Choosing.{is_keyword, why_no_keyword, Choice, any_may, takes_key, after_key, choice_of}
 use Rattle.pddl_parser.specs.Inner.SectionReading.{is_none, part_choices, parts, action}

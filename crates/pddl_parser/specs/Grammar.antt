@@ -11,8 +11,7 @@
 --
 -- Sections come in any order, each at most once, `:action` any number of times; so do the parts of an action, each at most
 -- once. A problem has `:domain` and `:goal`. Any other section, and any part, may be absent and is then empty.
-use Rattle.std.specs.Prelude.{◌≡◌, ℕ, Bool, true, false, List, [], ◌∷◌, ◌++◌, map, Option, Some, None, codes, bytes_eq}
-use Rattle.std.specs.List.{list_any}
+use Rattle.std.specs.Prelude.{◌≡◌, ℕ, true, List, [], ◌∷◌, ◌++◌, Option, Some, None, codes}
 use Rattle.pddl_forms.specs.declared.texts.Word.{Word}
 use Rattle.pddl_forms.specs.declared.texts.Typed.{Typed}
 use Rattle.pddl_forms.specs.declared.texts.AtomText.{AtomText}
@@ -21,11 +20,10 @@ use Rattle.pddl_parser.specs.declared.texts.ActionText.{ActionText}
 use Rattle.pddl_parser.specs.declared.texts.DomainText.{DomainText}
 use Rattle.pddl_parser.specs.declared.texts.ProblemText.{ProblemText}
 use Rattle.pddl_forms.specs.declared.texts.AtomChange.{AtomChange}
-use Rattle.pddl_forms.specs.declared.texts.AtomChange.TheVariants.{Added, Deleted}
 pub use Rattle.pddl_parser.specs.Sections.{ActionParts, DomainSections, ProblemSections}
 use Rattle.pddl_forms.specs.Forms.{is_one_of, word, IsNameWord, IsHead, Many, Closed, IsGroundAtom, IsLiftedAtom, Conjunction, IsChange, added, deleted, IsNames, IsVariables}
 use Rattle.pddl_forms.specs.Offending.{requirement_keywords}
-use Rattle.pddl_forms.specs.Lexemes.{Lexeme, left, right, name, variable, keyword, dash, gap}
+use Rattle.pddl_forms.specs.Lexemes.{Lexeme, left, right, name, keyword}
 
 -- ( define ( KIND NAME )
 pub data IsOpening (kind : List ℕ) : List Lexeme → Word → List Lexeme → Type 0 where
