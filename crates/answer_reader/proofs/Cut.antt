@@ -1,11 +1,9 @@
 -- Bytes that are cut into lines: lines without line feeds are found again.
-use Rattle.std.proofs.Common.{◌≡◌, ℕ, suc, ◌+◌, ◌<◌, ◌≤◌, Bool, true, false, List, [], ◌∷◌, ◌++◌, length, refl, sym, ◌∙◌, ap, subst, ◌⊎◌, inl, inr, arith, append_assoc, length-append}
+use Rattle.std.proofs.Common.{◌≡◌, ℕ, false, List, [], ◌∷◌, ◌++◌, length, refl, sym, ◌∙◌, ap, ◌⊎◌, inl, inr, arith, append_assoc, length-append}
 use Rattle.std.specs.Prelude.{All, ◌==◌}
 use Rattle.std.proofs.lemmas.Bool.{true≢false}
-use Rattle.std.proofs.lemmas.List.{append-nil}
 use Rattle.std.proofs.lemmas.List.Elements.{All-head, All-tail}
 use Rattle.flag_rules.specs.Line.{line, lines_of}
-use Rattle.flag_rules.proofs.Lines.{lines_of-append}
 use Rattle.answer_reader.proofs.Told.{HasNoFeed}
 
 no_feed_head : (b : ℕ) (bs : List ℕ) → HasNoFeed (b ∷ bs) → 10 ≡ b → ⊥

@@ -1,5 +1,5 @@
 -- The marks of a tree, read one after another: the programs that wait are partial, and stand in the order of the tree.
-use Rattle.std.proofs.Common.{◌≡◌, ℕ, ◌+◌, ◌<◌, ◌≤◌, List, [], ◌∷◌, ◌++◌, length, get_or, refl, sym, ◌∙◌, ap, subst}
+use Rattle.std.proofs.Common.{◌≡◌, ℕ, ◌+◌, ◌<◌, List, [], ◌∷◌, ◌++◌, length, get_or, refl, sym, ◌∙◌, subst}
 use Rattle.std.specs.Prelude.{All, Option, Some, None, IfSome, IfNone, option_to_list}
 use Rattle.std.proofs.lemmas.List.Elements.{All-nil, All-cons, All-head, All-tail, All-append, All-map, Contains-get_or}
 use Rattle.program_model.specs.declared.instr.Instr.{Instr}

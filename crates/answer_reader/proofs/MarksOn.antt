@@ -1,8 +1,7 @@
 -- The marks of a partial program, and those that a line alone tells.
-use Rattle.std.proofs.Common.{◌≡◌, ℕ, ◌<◌, ◌≤◌, ◌^◌, List, length, sym, ◌∙◌, subst, arith}
+use Rattle.std.proofs.Common.{◌≡◌, ℕ, ◌≤◌, List, length, sym, ◌∙◌, subst, arith}
 use Rattle.program_model.specs.declared.alphabet.TheConstants.{MAX_LINES}
-use Rattle.program_model.specs.Program.{Program, IsOpen}
-use Rattle.refutation_tree.specs.declared.ranges.TheConstants.{MAX_STEPS, MAX_SPLITS}
+use Rattle.program_model.specs.Program.{Program}
 use Rattle.refutation_tree.specs.declared.evidence.Mark.{Mark}
 use Rattle.refutation_tree.specs.declared.evidence.Mark.TheVariants as marks
 use Rattle.refutation_tree.specs.Grammar.{IsInRange}

@@ -1,42 +1,28 @@
 -- What each line that is read leads to.
-use Rattle.std.proofs.Common.{◌≡◌, ℕ, zero, suc, add-one, length-set, ◌+◌, ◌-◌, ◌<◌, ◌≤◌, Bool, true, false, cond, List, [], ◌∷◌, ◌++◌, length, map, flat_map, get_or, refl, sym, ◌∙◌, ap, subst, inl, inr, arith, append_assoc}
-use Rattle.std.specs.Prelude.{Option, Some, None, IsSome, All, nat_lt, slice_get, is_some, option_and_then, codes}
-use Rattle.std.specs.List.{range_with_len}
-use Rattle.std.proofs.lemmas.Bool.{cases_lt, cond-true, cond-false, lt-ltb, le-ltb}
-use Rattle.std.proofs.lemmas.Option.{same_Some, slice_get_within}
-use Rattle.std.proofs.lemmas.List.{map-append, append-nil, length_push}
-use Rattle.std.proofs.lemmas.List.Concat.{flat_map-append}
-use Rattle.std.proofs.lemmas.List.Elements.{All-nil, All-cons, All-push, All-head, All-tail, All-append, All-map}
+use Rattle.std.proofs.Common.{◌≡◌, ℕ, ◌+◌, ◌<◌, ◌≤◌, List, [], ◌∷◌, ◌++◌, length, refl, sym, ◌∙◌, ap, subst, arith}
+use Rattle.std.specs.Prelude.{Option, Some, codes}
 use Rattle.program_model.specs.declared.instr.Instr.{Instr}
 use Rattle.program_model.specs.declared.instr.Instr.TheVariants.{End}
 use Rattle.program_model.specs.declared.alphabet.TheConstants.{MAX_LINES}
 use Rattle.program_model.specs.declared.machine.TheConstants.{MAX_INSTANCES, MAX_POINTERS}
-use Rattle.program_model.specs.Alphabet.{alphabet}
-use Rattle.program_model.specs.Program.{Program, empty, line_at, with_line, IsOpen, IsInstr, IsPartial, IsProgram}
+use Rattle.program_model.specs.Program.{Program, empty, IsInstr}
 use Rattle.program_model.proofs.Alphabets.{contains_last}
-use Rattle.program_model.proofs.Places.{get-append_left, get-append_right}
-use Rattle.program_model.proofs.Programs.{length-empty, line_within}
-use Rattle.program_text.specs.Texts.{instr_text, program_line}
+use Rattle.program_text.specs.Texts.{instr_text}
 use Rattle.answer_reader.specs.declared.heading.Heading.{Heading}
 use Rattle.refutation_tree.specs.declared.ranges.TheConstants.{MAX_STEPS}
 use Rattle.refutation_tree.specs.declared.evidence.Mark.{Mark}
-use Rattle.refutation_tree.specs.declared.evidence.Mark.TheVariants as marks
 use Rattle.refutation_tree.specs.declared.evidence.Tree.{Tree}
 use Rattle.refutation_tree.specs.declared.evidence.Outcome.{Outcome}
-use Rattle.refutation_tree.specs.declared.evidence.Outcome.TheVariants as outcomes
-use Rattle.refutation_tree.specs.declared.evidence.Answer.{Answer}
 use Rattle.flag_rules.specs.Line.{then_number}
-use Rattle.answer_writer.specs.Document.{head_lines, verdict_line, mark_line, tree_lines, program_lines, ends_lines, document_lines}
-use Rattle.refutation_tree.specs.Grammar.{IsFromOneTo, IsInRange, child_programs, AreTrees, IsTree, last_size, HasProgram, HasNoProgram, FitsOutcome, IsGrammatical}
-use Rattle.answer_reader.specs.Inner.Following.{Place, at_form, at_pointers, at_lines, at_instances, at_verdict, at_tree, at_mark, at_program, at_instr, at_ends, at_end, at_rest, answer_of, past_trees, past_tree, past_marks, past_ends, past_instrs, MayMark, brought, MayBeTold, IsHeading, IsMarkOn, Leads, LeadOn}
-use Rattle.std.specs.Prelude.{Result, Ok, Err}
+use Rattle.refutation_tree.specs.Grammar.{IsFromOneTo, IsInRange}
+use Rattle.answer_reader.specs.Inner.Following.{Place, at_form, at_pointers, at_lines, at_instances, at_verdict, at_tree, at_mark, at_program, at_instr, at_ends, at_end, at_rest, answer_of, past_marks, past_ends, past_instrs, brought, IsMarkOn}
+use Rattle.std.specs.Prelude.{Result, Ok}
 use Rattle.program_text.specs.Names.{AreNames}
-use Rattle.program_text.specs.Reading.{MayStand}
 use Rattle.answer_reader.specs.declared.refusal.AnswerRefusal.{AnswerRefusal}
 use Rattle.answer_reader.specs.Inner.LineFacts.{IsVerdictOf}
 use Rattle.answer_reader.specs.Inner.Unread.{Unread}
-use Rattle.answer_reader.specs.Inner.ReadingOn.{TakesSuch, StandsAt, ComesTo, ReadsOn}
-use Rattle.answer_reader.proofs.Whole.{tree_next, instr_next, instrs_end, ends_next, ends_end}
+use Rattle.answer_reader.specs.Inner.ReadingOn.{TakesSuch, ReadsOn}
+use Rattle.answer_reader.proofs.Whole.{instr_next, ends_next}
 use Rattle.answer_reader.proofs.Said.{reads_such}
 
 -- ---- one reader after another

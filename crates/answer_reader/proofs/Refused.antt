@@ -7,7 +7,7 @@ use Rattle.refutation_tree.specs.declared.evidence.Answer.{Answer}
 use Rattle.answer_reader.specs.Inner.Following.{Place}
 use Rattle.answer_reader.specs.Reading.{Reads}
 use Rattle.answer_reader.specs.Inner.Unread.{Unread}
-use Rattle.answer_reader.specs.Inner.ReadingOn.{StandsAt, ComesTo, ReadsOn}
+use Rattle.answer_reader.specs.Inner.ReadingOn.{ComesTo, ReadsOn}
 
 pub still_refused : {A B : Type 0} (texts : List (List ℕ)) (bytes : List ℕ) (to : A → Place) (other : B → Place) (new after : Unread) (refusal : AnswerRefusal)
     → ComesTo texts bytes to new (Err refusal) → ComesTo texts bytes other after (Err refusal)

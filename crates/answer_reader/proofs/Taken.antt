@@ -1,9 +1,8 @@
 -- Lines that are taken off: what they say is answered, or the refusal has their number.
-use Rattle.std.proofs.Common.{◌≡◌, ℕ, Bool, true, false, List, [], ◌∷◌, ◌++◌, refl, sym, ◌∙◌, ap, subst}
-use Rattle.std.specs.Prelude.{All, IsTrue, not, ◌==◌, Option, Some, None, IfSome, IfNone, Result, Ok, Err, IsErrAnd, ok_or}
+use Rattle.std.proofs.Common.{◌≡◌, ℕ, Bool, true, false, List, [], ◌∷◌, refl, sym, ◌∙◌, subst}
+use Rattle.std.specs.Prelude.{IsTrue, not, ◌==◌, Option, Some, None, IfSome, IfNone, Result, Ok, Err, IsErrAnd, ok_or}
 use Rattle.std.proofs.lemmas.Bool.{and_parts, false≢true}
 use Rattle.std.proofs.lemmas.List.Elements.{All-nil, All-cons}
-use Rattle.flag_rules.specs.Line.{line}
 use Rattle.answer_reader.specs.declared.refusal.AnswerRefusal.{AnswerRefusal}
 use Rattle.answer_reader.specs.declared.refusal.AnswerRefusal.TheVariants.{Line}
 use Rattle.answer_reader.specs.Inner.Cuts.{is_free_of}

@@ -3,7 +3,7 @@ use Rattle.std.proofs.Common.{◌≡◌, ℕ, zero, suc, ◌+◌, ◌<◌, List,
 use Rattle.std.specs.Prelude.{codes}
 use Rattle.std.proofs.lemmas.Bool.{false≢true}
 use Rattle.std.proofs.lemmas.List.{append-nil}
-use Rattle.flag_rules.specs.Line.{line, lines_of, then_number}
+use Rattle.flag_rules.specs.Line.{lines_of, then_number}
 use Rattle.flag_rules.proofs.Lines.{lines_of-append}
 use Rattle.program_text.specs.Gathered.{Gathers}
 use Rattle.program_text.proofs.Gathering.{AllGathered, all_gathered, then_gathered, failed_gathered, same_gathered}

@@ -14,7 +14,7 @@ use Rattle.pointer_machine.proofs.Counts.{length-operations}
 use Rattle.instance_report.specs.declared.answer.Report.{Report}
 use Rattle.instance_report.specs.Report.{IsReport}
 use Rattle.instance_report.proofs.Solving.{solved_exactly, unsolved_somewhere}
-use Rattle.synthesis.specs.declared.limits.TheConstants.{BUDGET, RUN_LIMIT}
+use Rattle.synthesis.specs.declared.bounds.TheConstants.{BUDGET, RUN_LIMIT}
 use Rattle.refutation_tree.specs.declared.evidence.Answer.{Answer}
 use Rattle.refutation_tree.specs.declared.evidence.Outcome.{Outcome}
 use Rattle.refutation_tree.specs.declared.evidence.Outcome.TheVariants as outcomes

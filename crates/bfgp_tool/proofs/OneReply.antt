@@ -35,7 +35,7 @@ use Rattle.pointer_machine.specs.declared.refusal.MachineRefusal.TheVariants as 
 use Rattle.pointer_machine.specs.Operations.{operation_count}
 use Rattle.pointer_machine.specs.Machine.{MachineParts, meaning_of}
 use Rattle.pointer_machine.specs.Texts.{operation_texts}
-use Rattle.synthesis.specs.declared.limits.TheConstants.{BUDGET, RUN_LIMIT}
+use Rattle.synthesis.specs.declared.bounds.TheConstants.{BUDGET, RUN_LIMIT}
 use Rattle.refutation_tree.specs.declared.evidence.Answer.{Answer as SearchAnswer}
 use Rattle.synthesis.specs.Search.{plain}
 use Rattle.synthesis.proofs.SameAnswers.{same_answer}

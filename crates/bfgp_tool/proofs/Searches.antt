@@ -11,7 +11,7 @@ use Rattle.refutation_tree.specs.declared.evidence.Outcome.{Outcome}
 use Rattle.refutation_tree.specs.declared.evidence.Outcome.TheVariants as outcomes
 use Rattle.refutation_tree.specs.Document.{document}
 use Rattle.refutation_tree.specs.Grammar.{IsFromOneTo, IsGrammatical}
-use Rattle.synthesis.specs.declared.limits.TheConstants.{BUDGET, RUN_LIMIT}
+use Rattle.synthesis.specs.declared.bounds.TheConstants.{BUDGET, RUN_LIMIT}
 use Rattle.synthesis.specs.Search.{plain}
 use Rattle.synthesis.specs.Answers.{IsAnswer}
 use Rattle.synthesis.proofs.Grammatical.{searched_grammatical}

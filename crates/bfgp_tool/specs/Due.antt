@@ -11,7 +11,7 @@ use Rattle.instance_report.specs.declared.answer.Report.{Report}
 use Rattle.instance_report.specs.Report.{IsReport}
 use Rattle.pointer_machine.specs.Machine.{MachineParts, meaning_of}
 use Rattle.pointer_machine.specs.Texts.{operation_texts}
-use Rattle.synthesis.specs.declared.limits.TheConstants.{BUDGET, RUN_LIMIT}
+use Rattle.synthesis.specs.declared.bounds.TheConstants.{BUDGET, RUN_LIMIT}
 use Rattle.refutation_tree.specs.declared.evidence.Answer.{Answer}
 use Rattle.refutation_tree.specs.declared.evidence.Outcome.{Outcome}
 use Rattle.refutation_tree.specs.declared.evidence.Outcome.TheVariants as outcomes

@@ -16,7 +16,7 @@ use Rattle.pointer_machine.specs.declared.pointing.Pointing.{Pointing}
 use Rattle.pointer_machine.specs.Operations.{operations}
 use Rattle.pointer_machine.specs.Meaning.{meaning}
 use Rattle.pointer_machine.specs.Texts.{operation_texts}
-use Rattle.synthesis.specs.declared.limits.TheConstants.{BUDGET, RUN_LIMIT}
+use Rattle.synthesis.specs.declared.bounds.TheConstants.{BUDGET, RUN_LIMIT}
 use Rattle.refutation_tree.specs.declared.evidence.Answer.{Answer}
 use Rattle.refutation_tree.specs.declared.evidence.Outcome.TheVariants as outcomes
 use Rattle.synthesis.specs.Search.{plain}

@@ -4,7 +4,7 @@ use Rattle.std.specs.Prelude.{Ok, Err}
 use Rattle.flag_rules.specs.Line.{lines_of}
 use Rattle.program_model.specs.declared.machine.TheConstants.{MAX_INSTANCES, MAX_POINTERS}
 use Rattle.interpreter.specs.declared.plain_run.TheConstants.{MAX_RUN}
-use Rattle.synthesis.specs.declared.limits.TheConstants.{RUN_LIMIT}
+use Rattle.synthesis.specs.declared.bounds.TheConstants.{RUN_LIMIT}
 use Rattle.bfgp_tool.specs.declared.job.TheConstants.{LEAST_RUN, MAX_LINES_ASKED}
 use Rattle.bfgp_tool.specs.declared.job.Job.{Job}
 use Rattle.bfgp_tool.specs.declared.job.Job.TheVariants.{Synth, Run}

@@ -3,7 +3,7 @@ use Rattle.std.proofs.Common.{◌≡◌, ℕ, ◌+◌, ◌<◌, ◌≤◌, List,
 use Rattle.std.proofs.lemmas.Bool.{false≢true}
 use Rattle.std.proofs.lemmas.List.{append-nil, take_more, take-append-drop, take_all}
 use Rattle.bfgp_outside.specs.Sink.{Puts}
-use Rattle.bfgp_outside.proofs.Puts.{AllPut, IsJoined, none_put, all_put, ok_put, then_put, failed_put, same_put}
+use Rattle.bfgp_outside.proofs.Puts.{IsJoined, none_put, all_put, ok_put, then_put, failed_put, same_put}
 use Rattle.program_text.specs.Gathered.{Gathers}
 
 -- what stands is what Ok leaves

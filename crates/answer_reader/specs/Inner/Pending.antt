@@ -1,5 +1,5 @@
 -- The partial programs that have no tree yet, while the marks of a tree are read.
-use Rattle.std.specs.Prelude.{◌≡◌, ℕ, ◌+◌, ◌<◌, List, [], ◌∷◌, ◌++◌, length, drop}
+use Rattle.std.specs.Prelude.{ℕ, ◌+◌, ◌<◌, List, [], ◌∷◌, ◌++◌, length, drop}
 use Rattle.program_model.specs.Program.{Program}
 use Rattle.refutation_tree.specs.Grammar.{child_programs}
 use Rattle.answer_reader.specs.declared.open_trees.Family.{Family}

@@ -1,5 +1,5 @@
 -- Reading on: where a reader stands in a document, and where it comes to.
-use Rattle.std.specs.Prelude.{◌≡◌, ℕ, ◌+◌, IsTrue, List, [], ◌∷◌, ◌++◌, length, Result, Ok, Err}
+use Rattle.std.specs.Prelude.{◌≡◌, ℕ, ◌+◌, IsTrue, List, ◌++◌, length, Result, Ok, Err}
 use Rattle.flag_rules.specs.Line.{line, lines_of}
 use Rattle.answer_reader.specs.declared.refusal.AnswerRefusal.{AnswerRefusal}
 use Rattle.answer_reader.specs.declared.refusal.AnswerRefusal.TheVariants.{Line, OutOfMemory}

@@ -1,7 +1,6 @@
 use Rattle.std.proofs.Common.{◌∙◌, List, [], subst, sym}
-use Rattle.std.specs.Prelude.{Ok, Err}
+use Rattle.std.specs.Prelude.{Err}
 use Rattle.std.proofs.lemmas.Bool.{true≢false}
-use Rattle.refutation_tree.specs.declared.evidence.Answer.{Answer}
 use Rattle.refutation_tree.specs.declared.evidence.Tree.{Tree}
 use Rattle.answer_reader.specs.declared.heading.Heading.{Heading}
 use Rattle.answer_reader.specs.declared.reading.Found.{Found}

@@ -1,4 +1,4 @@
-use Rattle.std.proofs.Common.{ℕ, List, [], ◌∷◌, map, codes, sym, subst}
+use Rattle.std.proofs.Common.{[], ◌∷◌, map, codes, sym, subst}
 use Rattle.std.specs.Prelude.{Option}
 use Rattle.flag_rules.specs.Line.{lines_of}
 use Rattle.program_model.specs.Program.{Program}

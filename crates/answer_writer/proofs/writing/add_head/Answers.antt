@@ -2,7 +2,6 @@ use Rattle.std.proofs.Common.{ℕ, List, [], ◌∷◌, ◌++◌}
 use Rattle.std.specs.Prelude.{codes}
 use Rattle.flag_rules.specs.Line.{then_number}
 use Rattle.program_text.proofs.Gathering.{all_gathered}
-use Rattle.answer_writer.specs.Document.{head_lines}
 use Rattle.answer_writer.proofs.Puts.{then_lines, more_lines, stopped_lines, first_stopped, before_lines}
 use Rattle.answer_writer.proofs.writing.add_head.Goals as goal
 
