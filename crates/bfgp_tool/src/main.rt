@@ -2,44 +2,15 @@
 //! runs programs on them.
 #![tactic(auto)]
 
-mod domain_reading;
-mod fault;
-mod input;
-mod instance_reading;
-mod job;
-mod laws;
-mod machine;
-mod number;
-mod reply;
-mod run;
-mod status;
-mod synth;
-#[cfg(test)]
-mod tests;
-mod top;
-mod usage;
-
+use bfgp_jobs::run_process;
 use bfgp_outside::{RealShelf, RealSink};
-use status::Status;
 use std::process::ExitCode;
 use std::{env, io};
-use top::bfgp;
-
-/// The exit status where the process does not get its words as text. No job ends with it.
-const NO_WORDS: u8 = 9;
 
 fn main(rt: HostRuntime) -> ExitCode {
-    match words(&rt) {
-        Ok(words) => {
-            let mut shelf = RealShelf::new(&rt);
-            let mut sink = RealSink::new(&rt);
-            bfgp(rt.alloc(), &words, &mut shelf, &mut sink).exit_code()
-        }
-        Err(error) if error.kind() == io::ErrorKind::OutOfMemory => {
-            Status::OutOfMemory.exit_code()
-        }
-        Err(_) => ExitCode::from(NO_WORDS),
-    }
+    let mut shelf = RealShelf::new(&rt);
+    let mut sink = RealSink::new(&rt);
+    run_process(rt.alloc(), words(&rt), &mut shelf, &mut sink)
 }
 
 // The words of the command, without the program's own name.

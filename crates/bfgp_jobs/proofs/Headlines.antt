@@ -1,0 +1,273 @@
+-- From the reply that is due to the headline.
+use Rattle.std.proofs.Common.{◌≡◌, ℕ, ◌+◌, List, [], map, length, slice_get, Option, Some, None, Ok, Bool, true, false, refl, sym, ◌∙◌, ap, subst, arith}
+use Rattle.std.proofs.lemmas.List.{length-map}
+use Rattle.std.proofs.lemmas.Slice.Zip.{AllZip-long}
+use Rattle.bfgp_outside.specs.Shelf.{Files}
+use Rattle.bfgp_outside.specs.Sink.{Appends}
+use Rattle.flag_rules.specs.declared.file.TheConstants.{MAX_FILE_BYTES}
+use Rattle.ground_state.specs.declared.parts.InstanceParts.{InstanceParts}
+use Rattle.ground_state.specs.Instance.{IsInstance}
+use Rattle.ground_state.specs.Ground.{ground_of}
+use Rattle.program_model.specs.Program.{Program, IsProgram}
+use Rattle.program_model.specs.Semantics.{Semantics}
+use Rattle.program_text.specs.Names.{AreNames}
+use Rattle.program_text.specs.Reading.{Reads}
+use Rattle.pointer_machine.specs.declared.pointing.Pointing.{Pointing}
+use Rattle.pointer_machine.specs.Machine.{MachineParts, meaning_of}
+use Rattle.pointer_machine.specs.Operations.{operations_of}
+use Rattle.pointer_machine.specs.Texts.{form_text, operation_texts}
+use Rattle.pointer_machine.proofs.Counts.{length-operations}
+use Rattle.instance_report.specs.declared.answer.Report.{Report}
+use Rattle.instance_report.specs.Report.{IsReport}
+use Rattle.instance_report.proofs.Solving.{solved_exactly, unsolved_somewhere}
+use Rattle.refutation_tree.specs.declared.evidence.Answer.{Answer}
+use Rattle.refutation_tree.specs.declared.evidence.Outcome.{Outcome}
+use Rattle.refutation_tree.specs.declared.evidence.Outcome.TheVariants as outcomes
+use Rattle.refutation_tree.specs.Accepted.{IsAccepted, ShowsLeast, NoneSolves}
+use Rattle.refutation_tree.specs.Covers.{nobody}
+use Rattle.refutation_tree.specs.Grammar.{IsGrammatical, FitsOutcome}
+use Rattle.refutation_tree.proofs.Covering.{nobody_is_fair}
+use Rattle.refutation_tree.proofs.Holding.{accepted_least, accepted_none}
+use Rattle.answer_writer.specs.Document.{document}
+use Rattle.answer_reader.specs.Reading.{IsDocument}
+use Rattle.answer_reader.proofs.Said.{reads_one}
+use Rattle.synthesis.specs.declared.bounds.TheConstants.{BUDGET, RUN_LIMIT}
+use Rattle.synthesis.specs.Search.{plain}
+use Rattle.synthesis.specs.Answers.{IsAnswer}
+use Rattle.synthesis.proofs.Accepting.{searched_accepted}
+use Rattle.command_words.specs.declared.job.Job.{Job}
+use Rattle.command_words.specs.declared.job.Job.TheVariants.{Synth, Run}
+use Rattle.command_words.specs.declared.job.SynthJob.{SynthJob}
+use Rattle.command_words.specs.declared.job.RunJob.{RunJob}
+use Rattle.command_words.specs.Words.{JobOf, IsSynthJob, IsJob}
+use Rattle.command_words.proofs.OneJob.{job_kept}
+use Rattle.input_reading.specs.Posed.{Poses, HoldsInstance}
+use Rattle.input_reading.specs.Steps.{goes_on}
+use Rattle.input_reading.proofs.Held.{machine_held, whole_held}
+use Rattle.input_reading.proofs.OperationNames.{operations-named}
+use Rattle.bfgp_jobs.specs.declared.status.Status.{Status}
+use Rattle.bfgp_jobs.specs.declared.status.Status.TheVariants.{Done, No, Usage, Input, SpentExpansions, SpentRun, ReadFault, WriteFault, OutOfMemory}
+use Rattle.bfgp_jobs.specs.Reply.{Reply}
+use Rattle.bfgp_jobs.specs.Due.{Due, answer, fault, usage, synth_due, run_due, job_due, status_of, report_status}
+use Rattle.bfgp_jobs.specs.Headline.{Headline, Succeeds, Refutes, posed_machine, SaysAnswer, FindsLeast, RefutesAll, PosesProgram, ProgramSolves, ProgramFails}
+use Rattle.bfgp_jobs.specs.Inner.Replying.{Writes}
+use Rattle.bfgp_jobs.proofs.Runs.{program_over}
+use Rattle.bfgp_jobs.proofs.GoalRuns.{solves_each, each_within, fails_one, solves_all, ends_each}
+
+-- ---- a reply of `synth`
+-- what is posed, and the search's answer on it
+record Answered (files : Files) (job : SynthJob) (reply : Reply) : Type 0 where
+  posed : Poses job.inputs files
+  fit : (t : ℕ) (instance : InstanceParts) → slice_get posed.instances t ≡ Some instance → IsInstance posed.task instance
+  found : Answer
+  is_answer : IsAnswer (plain (posed_machine posed.task posed.instances job.pointers) RUN_LIMIT) BUDGET job.lines found
+  is : reply ≡ record { status = status_of found.outcome; text = document (operation_texts posed.task job.pointers) found }
+  named : AreNames (operation_texts posed.task job.pointers)
+
+answered : (files : Files) (job : SynthJob) (reply : Reply) → IsSynthJob job → synth_due files job (Ok reply) → Answered files job reply
+answered files job reply is_job (goes_on {a = machine} made found) =
+    let held = machine_held files job.inputs job.pointers machine made in
+    record {
+      posed = held.posed;
+      fit = held.fit;
+      found = found.0;
+      is_answer = subst (λ (m : MachineParts). IsAnswer (plain (meaning_of m) RUN_LIMIT) BUDGET job.lines found.0) held.is found.1;
+      is = subst (λ (m : MachineParts). reply ≡ record { status = status_of found.0.outcome; text = document (operation_texts m.task m.pointers) found.0 }) held.is found.2;
+      named = operations-named held.posed.task job.pointers held.is_task is_job.some_pointers is_job.few_pointers held.few;
+    }
+
+-- what the answer shows
+done_is : (outcome : Outcome) → status_of outcome ≡ Done → (size : ℕ) × (outcome ≡ outcomes.Program size)
+done_is (outcomes.Program size) done = (size, refl)
+done_is outcomes.Nothing done = absurd (cc)
+done_is (outcomes.SpentExpansions size) done = absurd (cc)
+done_is (outcomes.SpentRun size t) done = absurd (cc)
+
+no_is : (outcome : Outcome) → status_of outcome ≡ No → outcome ≡ outcomes.Nothing
+no_is (outcomes.Program size) refuted = absurd (cc)
+no_is outcomes.Nothing refuted = refl
+no_is (outcomes.SpentExpansions size) refuted = absurd (cc)
+no_is (outcomes.SpentRun size t) refuted = absurd (cc)
+
+module _ (files : Files) (job : SynthJob) (is_job : IsSynthJob job) (reply : Reply) (known : Answered files job reply) where
+  abbrev machine : Semantics Pointing
+  machine = posed_machine known.posed.task known.posed.instances job.pointers
+
+  abbrev lines : ℕ
+  lines = job.lines
+
+  abbrev texts : List (List ℕ)
+  texts = operation_texts known.posed.task job.pointers
+
+  ops : length texts ≡ machine.ops
+  ops = length-map (operations_of known.posed.task job.pointers) (form_text known.posed.task)
+
+  -- the answer is accepted
+  accepted : IsAccepted machine nobody lines known.found
+  accepted =
+      let count = length-operations known.posed.task job.pointers in
+      let tables = length-map known.posed.instances (ground_of known.posed.task) in
+      let given = AllZip-long (HoldsInstance files known.posed.domain) job.inputs.instances known.posed.instances known.posed.instances_are in
+      let inputs = is_job.inputs in
+      searched_accepted (plain machine RUN_LIMIT) BUDGET (omega arith) (omega arith) lines known.found
+      (omega (arith, count, is_job.some_pointers))
+      (is_job.some_pointers, is_job.few_pointers)
+      (omega (arith, tables, given, inputs.some_instances), omega (arith, tables, given, inputs.few_instances))
+      (is_job.some_lines, omega (arith, is_job.few_lines))
+      known.is_answer
+
+  shows_least : (size : ℕ) → known.found.outcome ≡ outcomes.Program size → ShowsLeast machine size lines known.found
+  shows_least size is = accepted_least machine nobody (nobody_is_fair machine) lines size known.found accepted is
+
+  none_solves : known.found.outcome ≡ outcomes.Nothing → NoneSolves machine lines
+  none_solves is = accepted_none machine nobody (nobody_is_fair machine) lines known.found accepted is
+
+  -- what was written says this answer, and no other
+  writes_answer : (old new : Option (List ℕ)) → Appends old new reply.text → SaysAnswer texts old new known.found
+  writes_answer old new appended =
+      let says : IsDocument texts (document texts known.found) known.found = (subst (λ (n : ℕ). IsGrammatical n known.found) (sym ops) accepted.grammatical, refl) in
+      record {
+        bytes = document texts known.found;
+        appended = subst (λ (r : Reply). Appends old new r.text) known.is appended;
+        says = says;
+        only = λ other says_too. let same = reads_one texts (document texts known.found) (Ok other) (Ok known.found) known.named says_too says (λ is. absurd (cc)) (λ is. absurd (cc)) in cc;
+      }
+
+  -- with status 0 a program solves, and none with fewer lines does
+  finds : (old new : Option (List ℕ)) → reply.status ≡ Done → Appends old new reply.text → FindsLeast job files old new
+  finds old new done appended =
+      let outcome = done_is known.found.outcome (sym (ap (λ (r : Reply). r.status) known.is) ∙ done) in
+      let shown = shows_least outcome.0 outcome.1 in
+      record {
+        posed = known.posed;
+        program = shown.program;
+        is_program = shown.least.is_program;
+        at_most = omega (arith, shown.size_is, shown.within);
+        solves = solves_each known.posed.task known.posed.instances job.pointers known.fit shown.program shown.least.solves;
+        least = λ other is_one fewer solved. shown.least.least other is_one fewer (solves_all known.posed.task known.posed.instances job.pointers known.fit other solved);
+        answer = known.found;
+        found = outcome.1 ∙ ap outcomes.Program (sym shown.size_is);
+        given = shown.given;
+        ends = ends_each known.posed.task known.posed.instances job.pointers known.fit shown.program known.found.ends shown.ends;
+        searched = known.is_answer;
+        written = writes_answer old new appended;
+      }
+
+  -- with status 1 none does
+  refutes : (old new : Option (List ℕ)) → reply.status ≡ No → Appends old new reply.text → RefutesAll job files old new
+  refutes old new refuted appended =
+      let outcome = no_is known.found.outcome (sym (ap (λ (r : Reply). r.status) known.is) ∙ refuted) in
+      record {
+        posed = known.posed;
+        none = λ program is_one few solved. none_solves outcome program is_one few (solves_all known.posed.task known.posed.instances job.pointers known.fit program solved);
+        answer = known.found;
+        nothing = outcome;
+        no_program = (subst (FitsOutcome machine.ops known.found) outcome accepted.grammatical.outcome).0;
+        searched = known.is_answer;
+        written = writes_answer old new appended;
+      }
+
+-- ---- a reply of `run`
+-- what is posed, the program that its file holds, and the report on its runs
+record Reported (files : Files) (job : RunJob) (reply : Reply) : Type 0 where
+  posed : Poses job.inputs files
+  fit : (t : ℕ) (instance : InstanceParts) → slice_get posed.instances t ≡ Some instance → IsInstance posed.task instance
+  bytes : List ℕ
+  held : files job.program ≡ Some bytes
+  program : Program
+  reads : Reads (operation_texts posed.task job.pointers) bytes (Ok program)
+  report : Report
+  is_report : IsReport (posed_machine posed.task posed.instances job.pointers) program job.run report
+  status_is : reply.status ≡ report_status report.all_solved
+
+reported : (files : Files) (job : RunJob) (reply : Reply) → run_due files job (Ok reply) → Reported files job reply
+reported files job reply (goes_on {a = machine} made (goes_on {a = bytes} read (goes_on {a = program} reads found))) =
+    let held = machine_held files job.inputs job.pointers machine made in
+    record {
+      posed = held.posed;
+      fit = held.fit;
+      bytes = bytes;
+      held = whole_held (files job.program) MAX_FILE_BYTES bytes read;
+      program = program;
+      reads = subst (λ (m : MachineParts). Reads (operation_texts m.task m.pointers) bytes (Ok program)) held.is reads;
+      report = found.0;
+      is_report = subst (λ (m : MachineParts). IsReport (meaning_of m) program job.run found.0) held.is found.1;
+      status_is = ap (λ (r : Reply). r.status) found.2;
+    }
+
+-- the status 0 is that of a report on which all instances are solved, and the status 1 that of any other
+all_are_solved : (all_solved : Bool) → report_status all_solved ≡ Done → all_solved ≡ true
+all_are_solved true done = refl
+all_are_solved false done = absurd (cc)
+
+not_all_are_solved : (all_solved : Bool) → report_status all_solved ≡ No → all_solved ≡ false
+not_all_are_solved true refuted = absurd (cc)
+not_all_are_solved false refuted = refl
+
+module _ (files : Files) (job : RunJob) (reply : Reply) (known : Reported files job reply) where
+  abbrev run_machine : Semantics Pointing
+  run_machine = posed_machine known.posed.task known.posed.instances job.pointers
+
+  is_whole : IsProgram run_machine.ops known.program
+  is_whole = program_over (record { task = known.posed.task; tables = []; pointers = job.pointers }) known.bytes known.program known.reads
+
+  abbrev poses : PosesProgram job files
+  poses = record { posed = known.posed; bytes = known.bytes; held = known.held; program = known.program; reads = known.reads }
+
+  program_solves : reply.status ≡ Done → ProgramSolves job files
+  program_solves done =
+      let all_solved = all_are_solved known.report.all_solved (sym known.status_is ∙ done) in
+      let exactly = solved_exactly run_machine run_machine.ops known.program is_whole.is_partial job.run known.is_report.runs known.is_report.are_runs in
+      record {
+        poses = poses;
+        solves = each_within known.posed.task known.posed.instances job.pointers known.fit known.program job.run (exactly.0 (sym known.is_report.all_solved ∙ all_solved));
+      }
+
+  program_fails : reply.status ≡ No → ProgramFails job files
+  program_fails refuted =
+      let not_all = not_all_are_solved known.report.all_solved (sym known.status_is ∙ refuted) in
+      let one = unsolved_somewhere run_machine run_machine.ops known.program is_whole.is_partial job.run known.is_report.runs known.is_report.are_runs (sym known.is_report.all_solved ∙ not_all) in
+      record {
+        poses = poses;
+        fails = fails_one known.posed.task known.posed.instances job.pointers known.fit known.program job.run one.t one.within one.fails;
+      }
+
+-- ---- the headline
+-- with status 0
+succeeds : (files : Files) (job : Job) (reply : Reply) (old new : Option (List ℕ)) → IsJob job → job_due files job (Ok reply) → reply.status ≡ Done → Appends old new reply.text → Succeeds job files old new
+succeeds files (Synth job) reply old new is_job here done appended = finds files job is_job reply (answered files job reply is_job here) old new done appended
+succeeds files (Run job) reply old new is_job here done appended = program_solves files job reply (reported files job reply here) done
+
+-- with status 1
+refuted : (files : Files) (job : Job) (reply : Reply) (old new : Option (List ℕ)) → IsJob job → job_due files job (Ok reply) → reply.status ≡ No → Appends old new reply.text → Refutes job files old new
+refuted files (Synth job) reply old new is_job here status appended = refutes files job is_job reply (answered files job reply is_job here) old new status appended
+refuted files (Run job) reply old new is_job here status appended = program_fails files job reply (reported files job reply here) status
+
+-- a reply that tells neither a fault nor the usage is what a job comes to
+record Concluded (words : List (List ℕ)) (files : Files) (reply : Reply) : Type 0 where
+  job : Job
+  job_is : JobOf words job
+  comes : job_due files job (Ok reply)
+
+concluded : (words : List (List ℕ)) (files : Files) (reply : Reply) → ((reply.status ≡ Input) → ⊥) → ((reply.status ≡ Usage) → ⊥) → Due words files reply → Concluded words files reply
+concluded words files reply no_input no_usage (answer job job_is here) = record { job = job; job_is = job_is; comes = here }
+concluded words files _ no_input no_usage (fault job job_is here) = absurd (no_input refl)
+concluded words files _ no_input no_usage (usage none) = absurd (no_usage refl)
+
+-- what was written gives the headline
+pub headline : (words : List (List ℕ)) (files : Files) (reply : Reply) (status : Status) (old new : Option (List ℕ)) → Due words files reply → Writes reply f g status old new → Headline words files status old new
+headline words files reply Done old new due writes =
+    let wrote = writes.whole (λ e. cc) in
+    let known = concluded words files reply (λ is. let both = wrote.0 ∙ is in cc) (λ is. let both = wrote.0 ∙ is in cc) due in
+    (known.job, known.job_is, succeeds files known.job reply old new (job_kept words known.job known.job_is) known.comes (sym wrote.0) wrote.1)
+headline words files reply No old new due writes =
+    let wrote = writes.whole (λ e. cc) in
+    let known = concluded words files reply (λ is. let both = wrote.0 ∙ is in cc) (λ is. let both = wrote.0 ∙ is in cc) due in
+    (known.job, known.job_is, refuted files known.job reply old new (job_kept words known.job known.job_is) known.comes (sym wrote.0) wrote.1)
+headline words files reply Usage old new due writes = tt
+headline words files reply Input old new due writes = tt
+headline words files reply SpentExpansions old new due writes = tt
+headline words files reply SpentRun old new due writes = tt
+headline words files reply ReadFault old new due writes = tt
+headline words files reply WriteFault old new due writes = tt
+headline words files reply OutOfMemory old new due writes = tt

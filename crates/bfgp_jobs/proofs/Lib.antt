@@ -1,0 +1,9 @@
+pub mod Statuses
+pub mod Sequels
+pub mod Searches
+pub mod Runs
+pub mod Outcomes
+pub mod GoalRuns
+pub mod Headlines
+pub mod OneReply
+pub mod Written

@@ -1,0 +1,38 @@
+use Rattle.std.proofs.Common.{map, string_bytes, sym, subst}
+use Rattle.command_words.proofs.OneJob.{job_kept}
+use Rattle.bfgp_jobs.proofs.Outcomes.{job_known, usage_known, job_usage, job_input, job_status, job_reads, named_asked, none_asked}
+use Rattle.bfgp_jobs.proofs.replying.reply_to_words.Goals as goal
+
+pub job_outcome-requires : goal.job_outcome-requires
+job_outcome-requires g c = job_kept (map string_bytes c.args.words.now) c.in-Ok.job c.in-Ok.ensures
+
+pub returns-in-Ok-clause-due : goal.returns-in-Ok-clause-due
+returns-in-Ok-clause-due g c =
+    job_known (g.S.Shelf.files c.args.shelf.now) (map string_bytes c.args.words.now) c.in-Ok.job c.job_outcome.result c.tell.result c.in-Ok.ensures c.tell.ensures c.job_outcome.ensures.due
+
+pub returns-in-Ok-clause-usage : goal.returns-in-Ok-clause-usage
+returns-in-Ok-clause-usage g c =
+    job_usage (map string_bytes c.args.words.now) c.in-Ok.job c.job_outcome.result c.tell.result c.in-Ok.ensures c.tell.ensures c.job_outcome.ensures.verdict
+
+pub returns-in-Ok-clause-input : goal.returns-in-Ok-clause-input
+returns-in-Ok-clause-input g c =
+    job_input _ _ c.job_outcome.result c.tell.result c.tell.ensures c.job_outcome.ensures.verdict c.job_outcome.ensures.cause
+
+pub returns-in-Ok-clause-status : goal.returns-in-Ok-clause-status
+returns-in-Ok-clause-status g c =
+    job_status c.job_outcome.result c.tell.result c.tell.ensures c.job_outcome.ensures.verdict
+
+pub returns-in-Ok-clause-reads : goal.returns-in-Ok-clause-reads
+returns-in-Ok-clause-reads g c =
+    job_reads _ _ c.job_outcome.result c.tell.result c.tell.ensures c.job_outcome.ensures.reads
+
+pub returns-in_ok-usage-in-Err-Usage-clause-due : goal.returns-in_ok-usage-in-Err-Usage-clause-due
+returns-in_ok-usage-in-Err-Usage-clause-due g c =
+    let none = rw c.in-Err-Usage.field-0-is at c.in-Err-Usage.ensures in
+    usage_known (g.S.Shelf.files c.args.shelf.now) (map string_bytes c.args.words.now) c.in_ok-usage-in-Err-Usage.field-0 none c.in_ok-usage-in-Err-Usage.ensures
+
+pub returns-in-Ok-clause-asks : goal.returns-in-Ok-clause-asks
+returns-in-Ok-clause-asks g c = named_asked (map string_bytes c.args.words.now) c.in-Ok.job _ _ c.in-Ok.ensures c.job_outcome.ensures.asks
+
+pub returns-in-Err-OutOfMemory-clause-asks : goal.returns-in-Err-OutOfMemory-clause-asks
+returns-in-Err-OutOfMemory-clause-asks g c = none_asked (map string_bytes c.args.words.now) (g.S.Shelf.asked c.args.shelf.now)

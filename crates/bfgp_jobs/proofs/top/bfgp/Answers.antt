@@ -1,0 +1,27 @@
+use Rattle.std.proofs.Common.{map, string_bytes}
+use Rattle.bfgp_outside.specs.Shelf.{Files}
+use Rattle.input_reading.proofs.Chain.{knowing}
+use Rattle.bfgp_jobs.specs.Due.{Due}
+use Rattle.bfgp_jobs.specs.Headline.{Headline}
+use Rattle.bfgp_jobs.specs.Answers.{Answers}
+use Rattle.bfgp_jobs.proofs.Headlines.{headline}
+use Rattle.bfgp_jobs.proofs.Written.{written_due}
+use Rattle.bfgp_jobs.proofs.top.bfgp.Goals as goal
+
+pub returns-in-Ok-clause-headline : goal.returns-in-Ok-clause-headline
+returns-in-Ok-clause-headline g c =
+    let words = map string_bytes c.args.words.now in
+    let old = g.K.Sink.written c.args.out.now in
+    let new = g.K.Sink.written c.write.new.out in
+    knowing (g.S.Shelf.files c.args.shelf.now) (λ (files : Files). Due words files c.in-Ok.reply) (λ (files : Files). Headline words files c.write.result old new)
+    (λ files due. headline words files c.in-Ok.reply c.write.result old new due c.write.ensures.writes)
+    c.in-Ok.ensures.due
+
+pub returns-in-Ok-clause-due : goal.returns-in-Ok-clause-due
+returns-in-Ok-clause-due g c =
+    let words = map string_bytes c.args.words.now in
+    let old = g.K.Sink.written c.args.out.now in
+    let new = g.K.Sink.written c.write.new.out in
+    knowing (g.S.Shelf.files c.args.shelf.now) (λ (files : Files). Due words files c.in-Ok.reply) (λ (files : Files). Answers (Due words files) c.write.result old new)
+    (λ files due. written_due (Due words files) c.in-Ok.reply c.write.result old new due c.in-Ok.ensures.status c.write.ensures.writes)
+    c.in-Ok.ensures.due

@@ -1,0 +1,135 @@
+-- The headline, in the words of planning.
+use Rattle.std.specs.Prelude.{◌≡◌, ◌+◌, ◌<◌, ◌≤◌, ℕ, List, map, length, slice_get, All, Option, Some, None, Ok}
+use Rattle.bfgp_outside.specs.Shelf.{Files}
+use Rattle.bfgp_outside.specs.Sink.{Appends}
+use Rattle.ground_state.specs.declared.parts.TaskParts.{TaskParts}
+use Rattle.ground_state.specs.declared.parts.InstanceParts.{InstanceParts}
+use Rattle.ground_state.specs.Ground.{ground_of, Holds}
+use Rattle.program_model.specs.Program.{Program, IsProgram}
+use Rattle.program_model.specs.Run.{Config, at}
+use Rattle.program_model.specs.Semantics.{Semantics}
+use Rattle.pointer_machine.specs.declared.pointing.Pointing.{Pointing}
+use Rattle.pointer_machine.specs.Operations.{operations_of}
+use Rattle.pointer_machine.specs.Meaning.{meaning}
+use Rattle.pointer_machine.specs.Texts.{operation_texts}
+use Rattle.synthesis.specs.declared.bounds.TheConstants.{BUDGET, RUN_LIMIT}
+use Rattle.refutation_tree.specs.declared.evidence.Answer.{Answer}
+use Rattle.refutation_tree.specs.declared.evidence.Outcome.TheVariants as outcomes
+use Rattle.answer_reader.specs.Reading.{IsDocument}
+use Rattle.synthesis.specs.Search.{plain}
+use Rattle.synthesis.specs.Answers.{IsAnswer}
+use Rattle.program_text.specs.Reading.{Reads}
+use Rattle.input_reading.specs.Posed.{Poses}
+use Rattle.command_words.specs.declared.job.Job.{Job}
+use Rattle.command_words.specs.declared.job.Job.TheVariants.{Synth, Run}
+use Rattle.command_words.specs.declared.job.SynthJob.{SynthJob}
+use Rattle.command_words.specs.declared.job.RunJob.{RunJob}
+use Rattle.bfgp_jobs.specs.declared.status.Status.{Status}
+use Rattle.bfgp_jobs.specs.declared.status.Status.TheVariants.{Done, No}
+use Rattle.command_words.specs.Words.{JobOf}
+
+-- the machine over these instances and so many pointers
+abbrev pub posed_machine : TaskParts → List InstanceParts → ℕ → Semantics Pointing
+posed_machine task instances pointers = meaning task (map (ground_of task) instances) pointers
+
+-- after so many steps the program's run on the instance of a number stands on its last line, in a state in which every fact of
+-- the goal is true
+pub record EndsInGoal (task : TaskParts) (instances : List InstanceParts) (pointers : ℕ) (program : Program) (t : ℕ) (instance : InstanceParts) (steps : ℕ) : Type 0 where
+  pub config : Config Pointing
+  pub comes : at (posed_machine task instances pointers) program t steps ≡ Some config
+  pub last : config.line + 1 ≡ length program
+  pub met : All (Holds (ground_of task instance) config.value.atoms) instance.goal
+
+-- the program's run on every instance comes to stand so
+abbrev pub SolvesEach : TaskParts → List InstanceParts → ℕ → Program → Type 0
+SolvesEach task instances pointers program = (t : ℕ) (instance : InstanceParts) → slice_get instances t ≡ Some instance → (steps : ℕ) × EndsInGoal task instances pointers program t instance steps
+
+-- these are the steps after which the program's runs stand so, on the instances in order
+pub record AreEndsInGoal (task : TaskParts) (instances : List InstanceParts) (pointers : ℕ) (program : Program) (ends : List ℕ) : Type 0 where
+  pub count : length ends ≡ length instances
+  pub each : (t steps : ℕ) (instance : InstanceParts) → slice_get instances t ≡ Some instance → slice_get ends t ≡ Some steps → EndsInGoal task instances pointers program t instance steps
+
+-- a program over the operations of the task and so many pointers
+abbrev pub IsProgramOver : TaskParts → ℕ → Program → Type 0
+IsProgramOver task pointers program = IsProgram (length (operations_of task pointers)) program
+
+-- bytes were written that read back as this answer, and as no other, where these are the texts of the operations
+pub record SaysAnswer (texts : List (List ℕ)) (old new : Option (List ℕ)) (answer : Answer) : Type 0 where
+  pub bytes : List ℕ
+  pub appended : Appends old new bytes
+  pub says : IsDocument texts bytes answer
+  pub only : (other : Answer) → IsDocument texts bytes other → other ≡ answer
+
+-- what was written says one answer, which is the search's: its program, of at most as many lines as were asked for, solves
+-- every instance, after as many steps as it tells, and no program with fewer lines over the same pointers does
+pub record FindsLeast (job : SynthJob) (files : Files) (old new : Option (List ℕ)) : Type 0 where
+  pub posed : Poses job.inputs files
+  pub program : Program
+  pub is_program : IsProgramOver posed.task job.pointers program
+  pub at_most : length program ≤ job.lines
+  pub solves : SolvesEach posed.task posed.instances job.pointers program
+  pub least : (other : Program) → IsProgramOver posed.task job.pointers other → length other < length program → SolvesEach posed.task posed.instances job.pointers other → ⊥
+  pub answer : Answer
+  pub found : answer.outcome ≡ outcomes.Program (length program)
+  pub given : answer.program ≡ Some program
+  pub ends : AreEndsInGoal posed.task posed.instances job.pointers program answer.ends
+  pub searched : IsAnswer (plain (posed_machine posed.task posed.instances job.pointers) RUN_LIMIT) BUDGET job.lines answer
+  pub written : SaysAnswer (operation_texts posed.task job.pointers) old new answer
+
+-- what was written says one answer, which is the search's: that there is none; and no program of at most as many lines as were
+-- asked for solves every instance
+pub record RefutesAll (job : SynthJob) (files : Files) (old new : Option (List ℕ)) : Type 0 where
+  pub posed : Poses job.inputs files
+  pub none : (program : Program) → IsProgramOver posed.task job.pointers program → length program ≤ job.lines → SolvesEach posed.task posed.instances job.pointers program → ⊥
+  pub answer : Answer
+  pub nothing : answer.outcome ≡ outcomes.Nothing
+  pub no_program : answer.program ≡ None
+  pub searched : IsAnswer (plain (posed_machine posed.task posed.instances job.pointers) RUN_LIMIT) BUDGET job.lines answer
+  pub written : SaysAnswer (operation_texts posed.task job.pointers) old new answer
+
+-- the files hold a program, and the task and the instances that it is for
+pub record PosesProgram (job : RunJob) (files : Files) : Type 0 where
+  pub posed : Poses job.inputs files
+  pub bytes : List ℕ
+  pub held : files job.program ≡ Some bytes
+  pub program : Program
+  pub reads : Reads (operation_texts posed.task job.pointers) bytes (Ok program)
+
+-- the program's run on every instance comes to stand so, after steps of at most a limit
+abbrev pub SolvesEachWithin : TaskParts → List InstanceParts → ℕ → Program → ℕ → Type 0
+SolvesEachWithin task instances pointers program limit = (t : ℕ) (instance : InstanceParts) → slice_get instances t ≡ Some instance → (steps : ℕ) × (steps ≤ limit) × EndsInGoal task instances pointers program t instance steps
+
+-- there is an instance on which the program's run does not come to stand so after steps of at most a limit
+pub record FailsOne (task : TaskParts) (instances : List InstanceParts) (pointers : ℕ) (program : Program) (limit : ℕ) : Type 0 where
+  pub t : ℕ
+  pub instance : InstanceParts
+  pub given : slice_get instances t ≡ Some instance
+  pub fails : (steps : ℕ) → steps ≤ limit → EndsInGoal task instances pointers program t instance steps → ⊥
+
+-- the program that the program file holds solves every instance within the limit
+pub record ProgramSolves (job : RunJob) (files : Files) : Type 0 where
+  pub poses : PosesProgram job files
+  pub solves : SolvesEachWithin poses.posed.task poses.posed.instances job.pointers poses.program job.run
+
+-- the program that the program file holds does not solve some instance within the limit
+pub record ProgramFails (job : RunJob) (files : Files) : Type 0 where
+  pub poses : PosesProgram job files
+  pub fails : FailsOne poses.posed.task poses.posed.instances job.pointers poses.program job.run
+
+-- status 0 of `synth` says that the written program solves and none with fewer lines does, and status 0 of `run` that the given
+-- program solves within the limit
+abbrev pub Succeeds : Job → Files → Option (List ℕ) → Option (List ℕ) → Type 0
+Succeeds (Synth job) files old new = FindsLeast job files old new
+Succeeds (Run job) files old new = ProgramSolves job files
+
+-- status 1 of `synth` says that no program of at most as many lines as were asked for solves, and status 1 of `run` that the given
+-- program does not solve some instance within the limit
+abbrev pub Refutes : Job → Files → Option (List ℕ) → Option (List ℕ) → Type 0
+Refutes (Synth job) files old new = RefutesAll job files old new
+Refutes (Run job) files old new = ProgramFails job files
+
+-- with status 0 and with status 1 the words are a job, and this is so of it
+abbrev pub Headline : List (List ℕ) → Files → Status → Option (List ℕ) → Option (List ℕ) → Type 0
+Headline words files Done old new = (job : Job) × JobOf words job × Succeeds job files old new
+Headline words files No old new = (job : Job) × JobOf words job × Refutes job files old new
+Headline words files _ old new = Unit {0}

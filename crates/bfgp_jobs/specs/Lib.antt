@@ -1,0 +1,7 @@
+pub mod Reply
+pub mod Due
+pub mod Answers
+pub mod Headline
+pub mod Exit
+pub mod Process
+pub mod Inner

@@ -1,0 +1,67 @@
+ghost use Rattle.std.specs.Prelude.{◌≡◌, ◌<◌, ◌≤◌, length, Ok, IfOk, IfErr};
+ghost use Rattle.bfgp_outside.specs.Causes.{RoseIf};
+ghost use Rattle.bfgp_outside.specs.Shelf.{Knowing, GoesOn};
+ghost use Rattle.program_model.specs.declared.machine.TheConstants.{MAX_INSTANCES, MAX_POINTERS};
+ghost use Rattle.program_text.specs.Names.{AreNames};
+ghost use Rattle.pointer_machine.specs.Texts.{operation_texts};
+ghost use Rattle.refutation_tree.specs.Grammar.{IsFromOneTo};
+ghost use Rattle.command_words.specs.declared.job.TheConstants.{MAX_LINES_ASKED};
+ghost use Rattle.command_words.specs.Words.{IsSynthJob, names_of};
+ghost use Rattle.input_reading.specs.Asked.{AsksInTurn};
+ghost use Rattle.input_reading.specs.Steps.{Gives};
+ghost use Rattle.bfgp_jobs.specs.Due.{synth_due, answer_due, status_of};
+ghost use Rattle.input_reading.specs.Causes.{HaltCause, is_read_fault};
+ghost use Rattle.bfgp_jobs.specs.Inner.Replying.{IsVerdict};
+
+use crate::reply::Reply;
+use crate::status::Status;
+use bfgp_outside::Shelf;
+use command_words::SynthJob;
+use flag_rules::OutOfMemory;
+use input_reading::{Halt, machine_for};
+use pointer_machine::{Meter, PointerMachine};
+use program_text::Names;
+use refutation_tree::Outcome;
+use std::alloc::Global;
+use synthesis::search;
+
+/// Searches for a smallest program that solves the instances of a job.
+pub(crate) fn synth<S: Shelf>(alloc: Global, shelf: &mut S, job: &SynthJob) -> Result<Reply, Halt>
+    requires { IsSynthJob job.now }
+    ensures due { Knowing (S.files shelf.old) (λ files. Gives (synth_due files job.now) result) }
+    ensures verdict { IfOk result (λ reply. IsVerdict reply.status) }
+    ensures cause { IfErr result (HaltCause (S.absences shelf.old) (S.absences shelf.new)) }
+    ensures reads { RoseIf (is_read_fault result) (S.faults shelf.old) (S.faults shelf.new) }
+    ensures goes_on { GoesOn S.files S.faults S.absences shelf.old shelf.new }
+    ensures asks { AsksInTurn (S.asked shelf.old) (S.asked shelf.new) (names_of job.now.inputs) }
+{
+    let machine = machine_for(alloc, shelf, &job.inputs, job.pointers)?;
+    Ok(answer(alloc, &machine, job.lines)?)
+}
+
+// The reply with the document of the search's answer.
+fn answer(alloc: Global, machine: &PointerMachine, lines: u8) -> Result<Reply, OutOfMemory>
+    requires names { AreNames (operation_texts machine.now.task machine.now.pointers) }
+    requires pointers { IsFromOneTo MAX_POINTERS machine.now.pointers }
+    requires instances { IsFromOneTo MAX_INSTANCES (length machine.now.tables) }
+    requires some { 0 < lines }
+    requires few { lines ≤ MAX_LINES_ASKED }
+    ensures due { IfOk result (λ reply. answer_due machine.now lines (Ok reply)) }
+    ensures verdict { IfOk result (λ reply. IsVerdict reply.status) }
+{
+    let answer = search(alloc, machine, lines, &mut Meter::zero())?;
+    let texts = machine.op_texts(alloc)?;
+    let names = Names::build(alloc, texts)?;
+    Ok(Reply::of_answer(status_of(answer.outcome), answer, names))
+}
+
+fn status_of(outcome: Outcome) -> Status
+    ensures { result ≡ status_of outcome }
+{
+    match outcome {
+        Outcome::Program { .. } => Status::Done,
+        Outcome::Nothing => Status::No,
+        Outcome::SpentExpansions { .. } => Status::SpentExpansions,
+        Outcome::SpentRun { .. } => Status::SpentRun,
+    }
+}

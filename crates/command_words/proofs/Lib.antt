@@ -1,0 +1,4 @@
+pub mod Lists
+pub mod Spelled
+pub mod OneJob
+pub mod Readings

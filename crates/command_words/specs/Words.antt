@@ -1,0 +1,91 @@
+-- The words of a command, and the text that is written where they are no job.
+use Rattle.std.specs.Prelude.{◌≡◌, ℕ, ◌<◌, ◌≤◌, Bool, false, not, ◌==◌, List, [], ◌∷◌, length, All, IsTrue, codes, decimal, Result}
+use Rattle.std.specs.Prelude.{Ok, Err}
+use Rattle.flag_rules.specs.Line.{lines_of}
+use Rattle.program_model.specs.declared.machine.TheConstants.{MAX_INSTANCES, MAX_POINTERS}
+use Rattle.interpreter.specs.declared.plain_run.TheConstants.{MAX_RUN}
+use Rattle.command_words.specs.declared.job.TheConstants.{LEAST_RUN, MAX_LINES_ASKED, USUAL_RUN}
+use Rattle.command_words.specs.declared.job.Job.{Job}
+use Rattle.command_words.specs.declared.job.Job.TheVariants.{Synth, Run}
+use Rattle.command_words.specs.declared.job.Inputs.{Inputs}
+use Rattle.command_words.specs.declared.job.SynthJob.{SynthJob}
+use Rattle.command_words.specs.declared.job.RunJob.{RunJob}
+use Rattle.command_words.specs.declared.refusal.JobRefusal.{JobRefusal}
+use Rattle.command_words.specs.declared.refusal.JobRefusal.TheVariants.{Usage, OutOfMemory}
+
+-- the byte of `-`
+abbrev pub DASH : ℕ
+DASH = 45
+
+-- a file name is not empty and does not begin with a dash
+abbrev pub is_file_name : List ℕ → Bool
+is_file_name [] = false
+is_file_name (first ∷ _) = not (first == DASH)
+
+-- the names of input files, as they stand among the words
+abbrev pub names_of : Inputs → List (List ℕ)
+names_of inputs = inputs.domain ∷ inputs.instances
+
+-- the names are those of files, and there are neither too few nor too many instances
+pub record AreInputs (inputs : Inputs) : Type 0 where
+  pub domain : IsTrue (is_file_name inputs.domain)
+  pub instances : All (λ name. IsTrue (is_file_name name)) inputs.instances
+  pub some_instances : 0 < length inputs.instances
+  pub few_instances : length inputs.instances ≤ MAX_INSTANCES
+
+-- the numbers of a search are within their limits
+pub record IsSynthJob (job : SynthJob) : Type 0 where
+  pub some_pointers : 0 < job.pointers
+  pub few_pointers : job.pointers ≤ MAX_POINTERS
+  pub some_lines : 0 < job.lines
+  pub few_lines : job.lines ≤ MAX_LINES_ASKED
+  pub inputs : AreInputs job.inputs
+
+-- the numbers of a run are within their limits
+pub record IsRunJob (job : RunJob) : Type 0 where
+  pub some_pointers : 0 < job.pointers
+  pub few_pointers : job.pointers ≤ MAX_POINTERS
+  pub least_run : LEAST_RUN ≤ job.run
+  pub most_run : job.run ≤ MAX_RUN
+  pub program : IsTrue (is_file_name job.program)
+  pub inputs : AreInputs job.inputs
+
+abbrev pub IsJob : Job → Type 0
+IsJob (Synth job) = IsSynthJob job
+IsJob (Run job) = IsRunJob job
+
+-- the words after `synth`: some pointers, lines and inputs, with the options in this order
+pub record SynthJobOf (words : List (List ℕ)) (job : SynthJob) : Type 0 where
+  pub spelled : words ≡ codes "--pointers" ∷ decimal job.pointers ∷ codes "--lines" ∷ decimal job.lines ∷ names_of job.inputs
+  pub is_job : IsSynthJob job
+
+-- a limit of steps and inputs: the limit is told by an option, or it is the one that is taken without
+pub data TellsLimit (words : List (List ℕ)) (run : ℕ) (inputs : Inputs) : Type 0 where
+  told : words ≡ codes "--run" ∷ decimal run ∷ names_of inputs → TellsLimit words run inputs
+  untold : words ≡ names_of inputs → run ≡ USUAL_RUN → TellsLimit words run inputs
+
+-- the words after `run`: some pointers, a program, maybe a limit of steps, and inputs, with the options in this order
+pub record RunJobOf (words : List (List ℕ)) (job : RunJob) : Type 0 where
+  pub others : List (List ℕ)
+  pub spelled : words ≡ codes "--pointers" ∷ decimal job.pointers ∷ codes "--program" ∷ job.program ∷ others
+  pub limit : TellsLimit others job.run job.inputs
+  pub is_job : IsRunJob job
+
+-- the words are those of the job: its command first
+abbrev pub JobOf : List (List ℕ) → Job → Type 0
+JobOf [] job = ⊥
+JobOf (command ∷ words) (Synth job) = (command ≡ codes "synth") × SynthJobOf words job
+JobOf (command ∷ words) (Run job) = (command ≡ codes "run") × RunJobOf words job
+
+-- what reading words may answer: what they spell, or that they spell nothing
+abbrev pub IsReading : {A : Type 0} → (A → Type 0) → Result A JobRefusal → Type 0
+IsReading Spells (Ok a) = Spells a
+IsReading {A} Spells (Err Usage) = (a : A) → Spells a → ⊥
+IsReading Spells (Err OutOfMemory) = Unit {0}
+
+abbrev pub usage_text : List ℕ
+usage_text = lines_of (
+    codes "usage: bfgp synth --pointers K --lines N [--budget B] [--run R] [--order E] DOMAIN INSTANCE.." ∷
+    codes "       bfgp check --pointers K --lines N --answer FILE DOMAIN INSTANCE.." ∷
+    codes "       bfgp run --pointers K --program FILE [--run R] DOMAIN INSTANCE.." ∷
+    codes "       bfgp gen FAMILY NUMBER" ∷ [])

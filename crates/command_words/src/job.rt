@@ -1,0 +1,50 @@
+use flag_rules::{List, Text};
+
+/// The greatest number of lines that `synth` takes so far.
+pub const MAX_LINES_ASKED: u8 = 3;
+
+/// The least limit of steps that `run` takes.
+pub const LEAST_RUN: u64 = 4;
+
+/// The limit of steps that `run` takes where the words tell none.
+pub const USUAL_RUN: u64 = 100_000;
+
+/// What the words of a command ask for.
+#[derive(Debug, Drop)]
+pub enum Job {
+    /// To search for a smallest program that solves all instances.
+    Synth(SynthJob),
+    /// To run a program on all instances.
+    Run(RunJob),
+}
+
+/// A search for a smallest program.
+#[derive(Debug, Drop)]
+pub struct SynthJob {
+    /// How many pointers programs have, from 1 to `MAX_POINTERS`.
+    pub pointers: u8,
+    /// How many lines programs have at most, from 1 to `MAX_LINES_ASKED`.
+    pub lines: u8,
+    pub inputs: Inputs,
+}
+
+/// The runs of a program.
+#[derive(Debug, Drop)]
+pub struct RunJob {
+    /// How many pointers the program has, from 1 to `MAX_POINTERS`.
+    pub pointers: u8,
+    /// How many steps a run has at most, from `LEAST_RUN` to `MAX_RUN`.
+    pub run: u64,
+    /// The name of the program file.
+    pub program: Text,
+    pub inputs: Inputs,
+}
+
+/// The names of the files that pose the instances.
+#[derive(Debug, Drop)]
+pub struct Inputs {
+    /// The name of the domain file.
+    pub domain: Text,
+    /// The names of the instance files, from 1 to `MAX_INSTANCES`.
+    pub instances: List<Text>,
+}

@@ -1,0 +1,14 @@
+ghost use Rattle.std.specs.Prelude.{◌≡◌, ◌≢◌, ℕ, ◌≤◌, string_bytes, decimal, IfSome, IfNone};
+
+use flag_rules::read_decimal;
+
+/// The number within limits that a word is, in decimal and without leading zeros.
+pub(crate) fn number_of(word: &String, least: u64, most: u64) -> Option<u64>
+    ensures some { IfSome result (λ number. (least ≤ number) × (number ≤ most) × (string_bytes word.now ≡ decimal number)) }
+    ensures none { IfNone result ((number : ℕ) → least ≤ number → number ≤ most → string_bytes word.now ≢ decimal number) }
+{
+    match read_decimal(word.as_bytes()) {
+        Some(number) if least <= number && number <= most => Some(number),
+        _ => None,
+    }
+}

@@ -1,0 +1,9 @@
+pub mod Chain
+pub mod AskedFor
+pub mod Sequels
+pub mod Tables
+pub mod OperationNames
+pub mod Machines
+pub mod Held
+pub mod Decided
+pub mod OneResult
