@@ -41,10 +41,10 @@ fn a_program_file_that_cannot_be_read(rt: HostRuntime) -> Result<(), Fail> {
     Ok(())
 }
 
-// The room of the sink, the put that fails, and what is written of the answer.
+// The room of the sink, which takes 16 bytes a put; the put that fails; and what is written of the answer.
 const FAILED_WRITES: &[(usize, Option<u64>, &str)] = &[
     (4096, Some(0), ""),
-    (4096, Some(2), "bfgp answer 1\n"),
+    (4096, Some(2), "bfgp answer 1\npointers 1\nlines 1"),
     (20, None, "bfgp answer 1\npointe"),
 ];
 
