@@ -1,5 +1,5 @@
 -- From the reply that is due to the headline.
-use Rattle.std.proofs.Common.{◌≡◌, ℕ, ◌+◌, List, [], map, length, slice_get, Option, Some, None, Ok, Bool, true, false, refl, sym, ◌∙◌, ap, subst, arith}
+use Rattle.std.proofs.Common.{◌≡◌, ℕ, List, [], length, slice_get, Option, Some, Ok, Bool, true, false, refl, sym, ◌∙◌, ap, subst, arith}
 use Rattle.std.proofs.lemmas.List.{length-map}
 use Rattle.std.proofs.lemmas.Slice.Zip.{AllZip-long}
 use Rattle.bfgp_outside.specs.Shelf.{Files}
@@ -255,7 +255,7 @@ concluded words files _ no_input no_usage (fault job job_is here) = absurd (no_i
 concluded words files _ no_input no_usage (usage none) = absurd (no_usage refl)
 
 -- what was written gives the headline
-pub headline : (words : List (List ℕ)) (files : Files) (reply : Reply) (status : Status) (old new : Option (List ℕ)) → Due words files reply → Writes reply f g status old new → Headline words files status old new
+pub headline : (words : List (List ℕ)) (files : Files) (reply : Reply) (status : Status) (old new : Option (List ℕ)) → Due words files reply → Writes reply status old new → Headline words files status old new
 headline words files reply Done old new due writes =
     let wrote = writes.whole (λ e. cc) in
     let known = concluded words files reply (λ is. let both = wrote.0 ∙ is in cc) (λ is. let both = wrote.0 ∙ is in cc) due in

@@ -14,7 +14,7 @@ use Rattle.input_reading.specs.Causes.{TellsFault, HaltCause, is_read_fault}
 use Rattle.input_reading.specs.Steps.{Gives}
 use Rattle.input_reading.proofs.Chain.{knowing}
 use Rattle.bfgp_jobs.specs.declared.replying.NoReply.{NoReply}
-use Rattle.bfgp_jobs.specs.declared.status.Status.TheVariants.{Input, Usage}
+use Rattle.bfgp_jobs.specs.declared.status.Status.TheVariants.{Input}
 use Rattle.bfgp_jobs.specs.Reply.{Reply}
 use Rattle.bfgp_jobs.specs.Due.{Due, answer, fault, usage, usage_reply, job_due}
 use Rattle.bfgp_jobs.specs.Answers.{AsksForNamed, files_of}

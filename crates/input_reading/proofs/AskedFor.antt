@@ -1,7 +1,7 @@
 -- Names that were asked for, call by call.
 use Rattle.std.proofs.Common.{◌≡◌, ℕ, ◌+◌, ◌<◌, List, [], ◌∷◌, ◌++◌, take, drop, length, get_or, Option, Some, None, refl, sym, ◌∙◌, ap, subst}
 use Rattle.std.proofs.lemmas.List.{append-nil, take-append-drop, take_more}
-use Rattle.bfgp_outside.specs.Shelf.{AsksFor, Asks}
+use Rattle.bfgp_outside.specs.Shelf.{Asks}
 use Rattle.command_words.specs.declared.job.Inputs.{Inputs}
 use Rattle.command_words.specs.Words.{names_of}
 use Rattle.input_reading.specs.Asked.{AsksInTurn}

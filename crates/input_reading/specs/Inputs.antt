@@ -1,5 +1,5 @@
 -- What is due of the input files: their bytes, a domain, tables of ground atoms, the machine over them, and a program.
-use Rattle.std.specs.Prelude.{◌≡◌, ℕ, List, [], ◌∷◌, Result, Ok, Err}
+use Rattle.std.specs.Prelude.{◌≡◌, ℕ, List, [], ◌∷◌, Result}
 use Rattle.bfgp_outside.specs.Shelf.{Files}
 use Rattle.bfgp_outside.specs.Whole.{whole_of}
 use Rattle.bfgp_outside.specs.declared.whole.ReadRefusal.{ReadRefusal}

@@ -1,4 +1,4 @@
-use Rattle.std.proofs.Common.{map, string_bytes, sym, subst}
+use Rattle.std.proofs.Common.{map, string_bytes}
 use Rattle.command_words.proofs.OneJob.{job_kept}
 use Rattle.bfgp_jobs.proofs.Outcomes.{job_known, usage_known, job_usage, job_input, job_status, job_reads, named_asked, none_asked}
 use Rattle.bfgp_jobs.proofs.replying.reply_to_words.Goals as goal
