@@ -1,0 +1,5 @@
+pub mod Stepping
+pub mod Waiting
+pub mod Marks
+pub mod Lines
+pub mod Parts

@@ -1,0 +1,215 @@
+-- Programs that wait for a mark: those of the family that was split last come first.
+use Rattle.std.proofs.Common.{◌≡◌, ℕ, zero, suc, ◌+◌, ◌-◌, ◌<◌, ◌≤◌, List, [], ◌∷◌, ◌++◌, length, take, drop, set, get_or, refl, sym, ◌∙◌, ap, arith, append_assoc, subst}
+use Rattle.std.specs.Prelude.{Option, Some, None, slice_get, option_map, option_to_list}
+use Rattle.std.proofs.lemmas.List.{length-map, append-nil}
+use Rattle.std.proofs.lemmas.Option.{slice_get-map, slice_get-get_or, slice_get_within, get_or_from_slice_get, same_Some, none-some}
+use Rattle.program_model.specs.declared.instr.Instr.{Instr}
+use Rattle.program_model.specs.Alphabet.{alphabet}
+use Rattle.program_model.specs.Semantics.{Semantics}
+use Rattle.program_model.specs.declared.instr.Instr.TheVariants.{End}
+use Rattle.program_model.specs.Program.{Program, with_line, IsOpen, IsPartial, Extends}
+use Rattle.program_model.proofs.Programs.{extends_with_line, open_is_not_last}
+use Rattle.refutation_check.specs.Inner.Runs.{IsTrack}
+use Rattle.std.proofs.lemmas.List.Elements.{All-nil}
+use Rattle.program_model.proofs.Alphabets.{length-alphabet}
+use Rattle.refutation_check.specs.declared.family.Family.{Family}
+use Rattle.refutation_tree.specs.Grammar.{child_programs}
+use Rattle.refutation_check.specs.Inner.Walking.{waiting, waiting_in, IsOpenFamily}
+
+-- ---- children
+
+pub count_children : (ops : ℕ) (q : Program) (line : ℕ) → length (child_programs ops q line) ≡ length (alphabet ops (length q) line)
+count_children ops q line = length-map (alphabet ops (length q) line) (with_line q line)
+
+pub child_at : (ops lines : ℕ) (q : Program) (line rank : ℕ) (instr : Instr) → lines ≡ length q → slice_get (alphabet ops lines line) rank ≡ Some instr → slice_get (child_programs ops q line) rank ≡ Some (with_line q line instr)
+child_at ops lines q line rank instr size e =
+    slice_get-map (with_line q line) (alphabet ops (length q) line) rank ∙ ap (option_map (with_line q line)) (ap (λ (n : ℕ). slice_get (alphabet ops n line) rank) (sym size) ∙ e)
+
+some_children : (ops : ℕ) (q : Program) (line : ℕ) → 0 < ops → line + 1 < length q → 0 < length (child_programs ops q line)
+some_children ops q line some inner = omega (arith, some, count_children ops q line, length-alphabet ops (length q) line inner)
+
+-- ---- the last of a list
+
+drop_there : {X : Type 0} (xs : List X) (i : ℕ) (x : X) → slice_get xs i ≡ Some x → drop i xs ≡ x ∷ drop (suc i) xs
+drop_there [] i x e = absurd (none-some x e)
+drop_there (y ∷ ys) zero x e = ap (λ z. z ∷ ys) (same_Some y x e)
+drop_there (y ∷ ys) (suc i) x e = drop_there ys i x e
+
+pub drop_past : {X : Type 0} (xs : List X) (i : ℕ) → length xs ≤ i → drop i xs ≡ []
+drop_past [] zero h = refl
+drop_past [] (suc i) h = refl
+drop_past (y ∷ ys) zero h = absurd (omega (arith, h))
+drop_past (y ∷ ys) (suc i) h = drop_past ys i (omega (arith, h))
+
+last_split : {X : Type 0} (xs : List X) (last : ℕ) (d : X) → length xs ≡ suc last → xs ≡ take last xs ++ get_or xs last d ∷ []
+last_split [] last d e = absurd (omega (arith, e))
+last_split (x ∷ []) zero d e = refl
+last_split (x ∷ y ∷ xs) zero d e = absurd (omega (arith, e))
+last_split (x ∷ xs) (suc last) d e = ap (λ l. x ∷ l) (last_split xs last d (omega (arith, e)))
+
+set_last : {X : Type 0} (xs : List X) (last : ℕ) (new : X) → length xs ≡ suc last → set xs last new ≡ take last xs ++ new ∷ []
+set_last [] last new e = absurd (omega (arith, e))
+set_last (x ∷ []) zero new e = refl
+set_last (x ∷ y ∷ xs) zero new e = absurd (omega (arith, e))
+set_last (x ∷ xs) (suc last) new e = ap (λ l. x ∷ l) (set_last xs last new (omega (arith, e)))
+
+take_set_last : {X : Type 0} (xs : List X) (last : ℕ) (new : X) → take last (set xs last new) ≡ take last xs
+take_set_last [] zero new = refl
+take_set_last [] (suc last) new = refl
+take_set_last (x ∷ xs) zero new = refl
+take_set_last (x ∷ xs) (suc last) new = ap (λ l. x ∷ l) (take_set_last xs last new)
+
+-- ---- families
+
+waiting_in_last : {C : Type 0} (ops : ℕ) (families : List (Family C)) (family : Family C) → waiting_in ops (families ++ family ∷ []) ≡ waiting ops family ++ waiting_in ops families
+waiting_in_last {C} ops [] family = sym (append-nil (waiting ops family))
+waiting_in_last {C} ops (other ∷ families) family =
+    ap (λ (l : List Program). l ++ waiting ops other) (waiting_in_last ops families family)
+    ∙ append_assoc (waiting ops family) (waiting_in ops families) (waiting ops other)
+
+-- a family whose children all wait
+pub all_children : {C : Type 0} (ops : ℕ) (families : List (Family C)) (family : Family C) → family.rank ≡ 0 → waiting_in ops (families ++ family ∷ []) ≡ child_programs ops family.parent family.line ++ waiting_in ops families
+all_children {C} ops families family first =
+    waiting_in_last ops families family ∙ ap (λ (rank : ℕ). drop rank (child_programs ops family.parent family.line) ++ waiting_in ops families) first
+
+-- the last family, once its next child is taken
+pub record IsAfter {C : Type 0} (ops : ℕ) (family after : Family C) (child : Program) : Type 0 where
+  pub here : slice_get (child_programs ops family.parent family.line) family.rank ≡ Some child
+  pub parent : after.parent ≡ family.parent
+  pub line : after.line ≡ family.line
+  pub rank : after.rank ≡ family.rank + 1
+
+waiting_next : {C : Type 0} (ops : ℕ) (family after : Family C) (child : Program) → IsAfter ops family after child → waiting ops family ≡ child ∷ waiting ops after
+waiting_next {C} ops family after child next =
+    let rank : suc family.rank ≡ after.rank = omega (arith, next.rank) in
+    drop_there (child_programs ops family.parent family.line) family.rank child next.here
+    ∙ ap (λ (n : ℕ). child ∷ drop n (child_programs ops family.parent family.line)) rank
+    ∙ ap (λ (q : Program). child ∷ drop after.rank (child_programs ops q family.line)) (sym next.parent)
+    ∙ ap (λ (n : ℕ). child ∷ drop after.rank (child_programs ops after.parent n)) (sym next.line)
+
+pub taken : {C : Type 0} (ops last : ℕ) (families : List (Family C)) (family after : Family C) (child : Program) → length families ≡ last + 1 → get_or families last family ≡ family → IsAfter ops family after child
+    → waiting_in ops families ≡ child ∷ waiting_in ops (set families last after)
+taken {C} ops last families family after child size here next =
+    let count : length families ≡ suc last = omega (arith, size) in
+    ap (waiting_in ops) (last_split families last family count ∙ ap (λ (f : Family C). take last families ++ f ∷ []) here)
+    ∙ waiting_in_last ops (take last families) family
+    ∙ ap (λ (l : List Program). l ++ waiting_in ops (take last families)) (waiting_next ops family after child next)
+    ∙ ap (λ (l : List Program). child ∷ l) (sym (ap (waiting_in ops) (set_last families last after count) ∙ waiting_in_last ops (take last families) after))
+
+-- the last family has no child left
+pub taken_last : {C : Type 0} (ops last : ℕ) (families : List (Family C)) (after : Family C) → length families ≡ last + 1 → length (child_programs ops after.parent after.line) ≤ after.rank
+    → waiting_in ops (set families last after) ≡ waiting_in ops (take last (set families last after))
+taken_last {C} ops last families after size done =
+    let count : length families ≡ suc last = omega (arith, size) in
+    ap (waiting_in ops) (set_last families last after count)
+    ∙ waiting_in_last ops (take last families) after
+    ∙ ap (λ (l : List Program). l ++ waiting_in ops (take last families)) (drop_past (child_programs ops after.parent after.line) after.rank done)
+    ∙ ap (waiting_in ops) (sym (take_set_last families last after))
+
+-- ---- the pending programs, before others
+
+same_head : {X : Type 0} (x y : X) (xs ys : List X) → x ∷ xs ≡ y ∷ ys → x ≡ y
+same_head x y xs ys e = cc
+
+headed : {X : Type 0} (xs ys : List X) (x : X) → xs ≡ x ∷ ys → xs ≡ x ∷ drop 1 xs
+headed xs ys x e = e ∙ ap (λ l. x ∷ drop 1 l) (sym e)
+
+-- the next one is the child of the last family's rank
+pub next_is_child : {C : Type 0} (ops : ℕ) (families : List (Family C)) (others : List Program) (family : Family C) (child : Program) → slice_get families (length families - 1) ≡ Some family → slice_get (child_programs ops family.parent family.line) family.rank ≡ Some child
+    → waiting_in ops families ++ others ≡ child ∷ drop 1 (waiting_in ops families ++ others)
+next_is_child {C} ops families others family child last here =
+    let within = slice_get_within families (length families - 1) family last in
+    let size : length families ≡ (length families - 1) + 1 = omega arith in
+    let after : Family C = record { parent = family.parent; line = family.line; rank = family.rank + 1; tracks = family.tracks } in
+    let next : IsAfter ops family after child = record { here = here; parent = refl; line = refl; rank = refl } in
+    let all = taken ops (length families - 1) families family after child size (get_or_from_slice_get families (length families - 1) family family last) next in
+    headed _ (waiting_in ops (set families (length families - 1) after) ++ others) child (ap (λ (l : List Program). l ++ others) all)
+
+-- the others are those after it
+pub next_is_past : {C : Type 0} (ops last : ℕ) (families : List (Family C)) (others : List Program) (family after : Family C) → length families ≡ last + 1 → get_or families last family ≡ family → family.rank < length (child_programs ops family.parent family.line)
+    → after.parent ≡ family.parent → after.line ≡ family.line → after.rank ≡ family.rank + 1 → waiting_in ops (set families last after) ++ others ≡ drop 1 (waiting_in ops families ++ others)
+next_is_past {C} ops last families others family after size here left parent line rank =
+    let children = child_programs ops family.parent family.line in
+    let child = get_or children family.rank family.parent in
+    let next : IsAfter ops family after child = record { here = slice_get-get_or children family.rank family.parent left; parent = parent; line = line; rank = rank } in
+    ap (λ (l : List Program). drop 1 (l ++ others)) (sym (taken ops last families family after child size here next))
+
+-- which is so where the last family has no child left, too, and is no longer there
+pub next_was_last : {C : Type 0} (ops last : ℕ) (families rest : List (Family C)) (others : List Program) (family after : Family C) → length families ≡ last + 1 → get_or families last family ≡ family → family.rank < length (child_programs ops family.parent family.line)
+    → after.parent ≡ family.parent → after.line ≡ family.line → after.rank ≡ family.rank + 1 → (after.rank < length (child_programs ops family.parent family.line) → ⊥) → take last (set families last after) ≡ rest
+    → waiting_in ops rest ++ others ≡ drop 1 (waiting_in ops families ++ others)
+next_was_last {C} ops last families rest others family after size here left parent line rank done is_rest =
+    let none : length (child_programs ops after.parent after.line) ≤ after.rank = rw (parent, line) (omega (arith, done)) in
+    ap (λ (l : List (Family C)). waiting_in ops l ++ others) (sym is_rest)
+    ∙ ap (λ (l : List Program). l ++ others) (sym (taken_last ops last families after size none))
+    ∙ next_is_past ops last families others family after size here left parent line rank
+
+-- where there is none, the root is
+pub next_is_root : {C : Type 0} (ops : ℕ) (families : List (Family C)) (root : Option Program) (q : Program) → None ≡ slice_get families (length families - 1) → root ≡ Some q
+    → waiting_in ops families ++ option_to_list root ≡ q ∷ drop 1 (waiting_in ops families ++ option_to_list root)
+next_is_root {C} ops [] root q none is = rw is refl
+next_is_root {C} ops (first ∷ families) root q none is =
+    let last = length (first ∷ families) - 1 in
+    absurd (none-some (get_or (first ∷ families) last first) (none ∙ slice_get-get_or (first ∷ families) last first (omega arith)))
+
+-- a family that goes on to a child that is left
+pub still_open : {C : Type 0} (m : Semantics C) (belongs : ℕ → C → Type 0) (family after : Family C) → IsOpenFamily m belongs family → after.parent ≡ family.parent → after.line ≡ family.line → after.tracks ≡ family.tracks
+    → after.rank < length (child_programs m.ops family.parent family.line) → IsOpenFamily m belongs after
+still_open m belongs family after h parent line tracks left = record {
+  partial = rw parent h.partial;
+  here = rw (parent, line) h.here;
+  left = rw (parent, line) left;
+  tracks = rw (parent, tracks) h.tracks;
+}
+
+-- a family that no child was taken of
+pub newly_open : {C : Type 0} (m : Semantics C) (belongs : ℕ → C → Type 0) (family : Family C) (parent : Program) (line : ℕ) → 0 < m.ops → IsPartial m.ops parent → IsOpen parent line → family.parent ≡ parent → family.line ≡ line → family.rank ≡ 0 → family.tracks.items ≡ []
+    → IsOpenFamily m belongs family
+newly_open m belongs family parent line some partial here parent_is line_is first none = record {
+  partial = rw parent_is partial;
+  here = rw (parent_is, line_is) here;
+  left = rw (parent_is, line_is, first) (some_children m.ops parent line some (open_is_not_last m.ops parent line partial here));
+  tracks = rw none (All-nil (IsTrack m belongs family.parent));
+}
+
+-- with it its parent's children are pending, before the others
+pub split_pending : {C : Type 0} (ops : ℕ) (families now : List (Family C)) (others : List Program) (family : Family C) (parent : Program) (line : ℕ) → family.parent ≡ parent → family.line ≡ line → family.rank ≡ 0 → now ≡ families ++ family ∷ []
+    → waiting_in ops now ++ others ≡ child_programs ops parent line ++ (waiting_in ops families ++ others)
+split_pending {C} ops families now others family parent line parent_is line_is first pushed =
+    ap (λ (l : List (Family C)). waiting_in ops l ++ others) pushed
+    ∙ ap (λ (l : List Program). l ++ others) (all_children ops families family first)
+    ∙ append_assoc (child_programs ops family.parent family.line) (waiting_in ops families) others
+    ∙ ap (λ (q : Program). child_programs ops q family.line ++ (waiting_in ops families ++ others)) parent_is
+    ∙ ap (λ (n : ℕ). child_programs ops parent n ++ (waiting_in ops families ++ others)) line_is
+
+-- the next one extends the last family's parent
+pub next_extends : {C : Type 0} (m : Semantics C) (belongs : ℕ → C → Type 0) (last : ℕ) (families : List (Family C)) (others : List Program) (family : Family C) (q : Program) → length families ≡ last + 1 → get_or families last family ≡ family
+    → IsOpenFamily m belongs family → waiting_in m.ops families ++ others ≡ q ∷ drop 1 (waiting_in m.ops families ++ others) → Extends q family.parent
+next_extends m belongs last families others family q size here h next =
+    let instrs = alphabet m.ops (length family.parent) family.line in
+    let instr = get_or instrs family.rank End in
+    let left = h.left in
+    let within : family.rank < length instrs = omega (arith, left, count_children m.ops family.parent family.line) in
+    let child : slice_get (child_programs m.ops family.parent family.line) family.rank ≡ Some (with_line family.parent family.line instr) =
+    slice_get-map (with_line family.parent family.line) instrs family.rank ∙ ap (option_map (with_line family.parent family.line)) (slice_get-get_or instrs family.rank End within) in
+    let place : length families - 1 ≡ last = omega arith in
+    let there : slice_get families (length families - 1) ≡ Some family = ap (slice_get families) place ∙ slice_get-get_or families last family (omega arith) ∙ ap Some here in
+    let other = next_is_child m.ops families others family (with_line family.parent family.line instr) there child in
+    let same : with_line family.parent family.line instr ≡ q = same_head _ _ _ _ (sym other ∙ next) in
+    subst (λ (p : Program). Extends p family.parent) same (extends_with_line family.parent family.line instr h.here)
+
+-- where the last family is only replaced by one at the same place, the same ones are pending
+pub same_pending : {C : Type 0} (ops last : ℕ) (families : List (Family C)) (others : List Program) (family after : Family C) → length families ≡ last + 1 → get_or families last family ≡ family
+    → after.parent ≡ family.parent → after.line ≡ family.line → after.rank ≡ family.rank → waiting_in ops (set families last after) ++ others ≡ waiting_in ops families ++ others
+same_pending {C} ops last families others family after size here parent line rank =
+    let count : length families ≡ suc last = omega (arith, size) in
+    let same : waiting ops after ≡ waiting ops family =
+    ap (λ (n : ℕ). drop n (child_programs ops after.parent after.line)) rank
+    ∙ ap (λ (q : Program). drop family.rank (child_programs ops q after.line)) parent
+    ∙ ap (λ (n : ℕ). drop family.rank (child_programs ops family.parent n)) line in
+    let whole : families ≡ take last families ++ family ∷ [] = last_split families last family count ∙ ap (λ (f : Family C). take last families ++ f ∷ []) here in
+    ap (λ (l : List Program). l ++ others)
+    (ap (waiting_in ops) (set_last families last after count)
+    ∙ waiting_in_last ops (take last families) after
+    ∙ ap (λ (l : List Program). l ++ waiting_in ops (take last families)) same
+    ∙ sym (ap (waiting_in ops) whole ∙ waiting_in_last ops (take last families) family))

@@ -1,0 +1,107 @@
+-- What is asked of the marks of a tree, one after another: of each, that it is of the grammar, and where the tree has to
+-- cover, that it shows what it says.
+use Rattle.std.specs.Prelude.{◌≡◌, ℕ, ◌<◌, ◌≤◌, ◌↔◌, IsTrue, Bool, List, [], ◌∷◌, ◌++◌, All, length, drop, slice_index_or, option_to_list}
+use Rattle.program_model.specs.Semantics.{Semantics}
+use Rattle.program_model.specs.Program.{Program, IsOpen, IsPartial}
+use Rattle.program_model.specs.Run.{Unmet, Loops}
+use Rattle.refutation_tree.specs.declared.ranges.TheConstants.{MAX_STEPS}
+use Rattle.refutation_tree.specs.declared.evidence.Mark.{Mark}
+use Rattle.refutation_tree.specs.declared.evidence.Mark.TheVariants as marks
+use Rattle.refutation_tree.specs.Grammar.{IsInRange, child_programs}
+use Rattle.refutation_check.specs.declared.family.Family.{Family}
+use Rattle.refutation_check.specs.declared.track.Track.{Track}
+use Rattle.refutation_check.specs.declared.walk.Walk.{Walk}
+use Rattle.refutation_check.specs.Inner.Runs.{IsTrack}
+
+-- a split is of an undefined line
+abbrev pub SplitsOpen : Program → Mark → Type 0
+SplitsOpen q (marks.Split line stamp) = IsOpen q line
+SplitsOpen q (marks.Unmet t j) = Unit {0}
+SplitsOpen q (marks.Loops t i j) = Unit {0}
+SplitsOpen q marks.Twin = Unit {0}
+SplitsOpen q marks.Waiting = Unit {0}
+SplitsOpen q marks.Solved = Unit {0}
+SplitsOpen q (marks.AtLimit t) = Unit {0}
+
+-- the partial programs that a mark brings: the children of the one that it splits
+abbrev pub brought : ℕ → Program → Mark → List Program
+brought ops q (marks.Split line stamp) = child_programs ops q line
+brought ops q (marks.Unmet t j) = []
+brought ops q (marks.Loops t i j) = []
+brought ops q marks.Twin = []
+brought ops q marks.Waiting = []
+brought ops q marks.Solved = []
+brought ops q (marks.AtLimit t) = []
+
+-- the mark shows that the partial program is refuted, or splits it
+abbrev pub Shows : {C : Type 0} → Semantics C → Program → Mark → Type 0
+Shows m q (marks.Split line stamp) = Unit {0}
+Shows m q (marks.Unmet t j) = Unmet m q t j
+Shows m q (marks.Loops t i j) = Loops m q t i j
+Shows m q marks.Twin = ⊥
+Shows m q marks.Waiting = ⊥
+Shows m q marks.Solved = ⊥
+Shows m q (marks.AtLimit t) = ⊥
+
+-- the mark stands for the partial program, in a tree that has to cover or need not
+pub record Stands {C : Type 0} (m : Semantics C) (covering : Bool) (q : Program) (mark : Mark) : Type 0 where
+  pub in_range : IsInRange m.instances mark
+  pub splits_open : SplitsOpen q mark
+  pub shows : IsTrue covering → Shows m q mark
+
+-- the marks, read in preorder, stand for these partial programs, one after another
+abbrev pub AllStand : {C : Type 0} → Semantics C → Bool → List Program → List Mark → Type 0
+AllStand m covering [] [] = Unit {0}
+AllStand m covering [] (mark ∷ ms) = ⊥
+AllStand m covering (q ∷ qs) [] = ⊥
+AllStand m covering (q ∷ qs) (mark ∷ ms) = Stands m covering q mark × AllStand m covering (brought m.ops q mark ++ qs) ms
+
+-- the mark names a run on the instance, and its steps are in their range
+abbrev pub NamesRun : ℕ → ℕ → Mark → Type 0
+NamesRun instances t (marks.Split line stamp) = ⊥
+NamesRun instances t (marks.Unmet named j) = (named ≡ t) × (t < instances) × (j ≤ MAX_STEPS)
+NamesRun instances t (marks.Loops named i j) = (named ≡ t) × (t < instances) × (i < j) × (j ≤ MAX_STEPS)
+NamesRun instances t marks.Twin = ⊥
+NamesRun instances t marks.Waiting = ⊥
+NamesRun instances t marks.Solved = ⊥
+NamesRun instances t (marks.AtLimit named) = ⊥
+
+-- the children of a family for which no mark came yet
+abbrev pub waiting : {C : Type 0} → ℕ → Family C → List Program
+waiting ops family = drop family.rank (child_programs ops family.parent family.line)
+
+-- those of several families, of which the last comes first
+abbrev pub waiting_in : {C : Type 0} → ℕ → List (Family C) → List Program
+waiting_in ops [] = []
+waiting_in ops (family ∷ later) = waiting_in ops later ++ waiting ops family
+
+-- a family that was split at an undefined line, and has a child left; its tracks are the parent's
+pub record IsOpenFamily {C : Type 0} (m : Semantics C) (belongs : ℕ → C → Type 0) (family : Family C) : Type 0 where
+  pub partial : IsPartial m.ops family.parent
+  pub here : IsOpen family.parent family.line
+  pub left : family.rank < length (child_programs m.ops family.parent family.line)
+  pub tracks : All (IsTrack m belongs family.parent) family.tracks.items
+
+-- the place has the track on an instance
+pub record IsPlaceOf {C : Type 0} (tracks : List (Track C)) (t place : ℕ) : Type 0 where
+  pub within : place < length tracks
+  pub instance : (d : Track C) → (slice_index_or tracks place d).t ≡ t
+
+-- the partial programs for which no mark came yet, the next one first
+abbrev pub pending : {C : Type 0} → ℕ → Walk C → List Program
+pending ops walk = waiting_in ops walk.families.items ++ option_to_list walk.root
+
+-- the partial program is the next one that is pending
+abbrev pub IsNext : {C : Type 0} → ℕ → Walk C → Program → Type 0
+IsNext ops walk program = pending ops walk ≡ program ∷ drop 1 (pending ops walk)
+
+-- a walk over the partial programs of a machine that has an operation
+pub record IsWalk {C : Type 0} (m : Semantics C) (belongs : ℕ → C → Type 0) (walk : Walk C) : Type 0 where
+  pub some : 0 < m.ops
+  pub families : All (IsOpenFamily m belongs) walk.families.items
+  pub root : All (IsPartial m.ops) (option_to_list walk.root)
+
+-- after a mark the walk has taken it, if it stands: what is asked of a mark and those after it is that, and what is asked then
+-- of those after it
+abbrev pub Takes : {C : Type 0} → Semantics C → Mark → Walk C → Walk C → Bool → Type 0
+Takes m mark old new stood = (ms : List Mark) → AllStand m old.covering (pending m.ops old) (mark ∷ ms) ↔ (IsTrue stood × AllStand m new.covering (pending m.ops new) ms)
