@@ -1,21 +1,23 @@
-//! A shelf in memory that writes down which files it is asked for.
+//! A shelf over another one that writes down which files it is asked for.
 
-use bfgp_outside::{MemoryShelf, Shelf, ShelfFault};
+ghost use Rattle.std.specs.Prelude.{◌≡◌};
+
+use bfgp_outside::{Shelf, ShelfFault};
 use flag_rules::{OutOfMemory, Text};
 use std::alloc::Global;
 
-/// The files that it holds, and what was asked of them.
+/// The shelf that has the files, and what was asked of it.
 #[derive(Drop)]
-pub struct AskingShelf {
-    files: MemoryShelf,
+pub struct AskingShelf<S: Drop> {
+    files: S,
     asked: Text,
     is_whole: bool,
     failed: u64,
 }
 
-impl AskingShelf {
+impl<S: Drop> AskingShelf<S> {
     /// A shelf of these files that was asked for none.
-    pub fn new(alloc: Global, files: MemoryShelf) -> AskingShelf {
+    pub fn new(alloc: Global, files: S) -> AskingShelf<S> {
         AskingShelf {
             files,
             asked: Text::new(alloc),
@@ -35,32 +37,44 @@ impl AskingShelf {
         self.failed
     }
 
-    fn write_down(&mut self, name: &[u8]) -> Result<(), OutOfMemory> {
-        self.asked.push(b' ')?;
-        self.asked.append(name)
+    // Writes a name down, where a file is read from its first byte on.
+    fn write_down(&mut self, name: &[u8], from: u64)
+        ensures { self.new.files ≡ self.old.files }
+    {
+        if from == 0 && append_word(&mut self.asked, name).is_err() {
+            self.is_whole = false;
+        }
+    }
+
+    fn count_failure(&mut self, answer: Result<usize, ShelfFault>)
+        ensures { self.new.files ≡ self.old.files }
+    {
+        if let Err(ShelfFault::Failed) = answer {
+            self.failed = self.failed.saturating_add(1);
+        }
     }
 }
 
-impl Shelf for AskingShelf {
-    ghost use Rattle.std.specs.Prelude.{Some, None};
-    ghost use Rattle.std.specs.FinMap.{get};
+fn append_word(text: &mut Text, word: &[u8]) -> Result<(), OutOfMemory> {
+    text.push(b' ')?;
+    text.append(word)
+}
 
-    ghost files = { λ shelf. Some (get shelf.files.held) };
+impl<S: Shelf + Drop> Shelf for AskingShelf<S> {
+    ghost use Rattle.std.specs.Prelude.{None};
 
-    ghost faults = { λ shelf. shelf.files.faults };
+    ghost files = { λ shelf. S.files shelf.files };
 
-    ghost absences = { λ shelf. shelf.files.absences };
+    ghost faults = { λ shelf. S.faults shelf.files };
+
+    ghost absences = { λ shelf. S.absences shelf.files };
 
     ghost asked = { λ _. None };
 
     fn read_at(&mut self, name: &[u8], from: u64, into: &mut [u8]) -> Result<usize, ShelfFault> {
-        if from == 0 && self.write_down(name).is_err() {
-            self.is_whole = false;
-        }
+        self.write_down(name, from);
         let answer = self.files.read_at(name, from, into);
-        if let Err(ShelfFault::Failed) = answer {
-            self.failed = self.failed.saturating_add(1);
-        }
+        self.count_failure(answer);
         answer
     }
 }
