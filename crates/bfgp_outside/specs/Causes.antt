@@ -2,11 +2,6 @@
 use Rattle.std.specs.Prelude.{◌≡◌, ℕ, ◌≤◌, Bool, true, false, Result, OnOk, OnErr}
 pub use Rattle.flag_rules.specs.Counts.{Rose, counted}
 
--- a count never falls, and an error comes only where it rose
-pub record HasCause {T E : Type 0} (before now : ℕ) (result : Result T E) : Type 0 where
-  pub later : before ≤ now
-  pub failed : OnErr result (Rose before now)
-
 -- a count of failed calls over one call: it never falls, an error comes only where it rose, and no call that fails is passed over
 pub record CountsFailure {T E : Type 0} (before now : ℕ) (result : Result T E) : Type 0 where
   pub later : before ≤ now
