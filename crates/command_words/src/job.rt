@@ -14,6 +14,8 @@ pub const USUAL_RUN: u64 = 100_000;
 pub enum Job {
     /// To search for a smallest program that solves all instances.
     Synth(SynthJob),
+    /// To check the answer document of a search.
+    Check(CheckJob),
     /// To run a program on all instances.
     Run(RunJob),
 }
@@ -25,6 +27,18 @@ pub struct SynthJob {
     pub pointers: u8,
     /// How many lines programs have at most, from 1 to `MAX_LINES_ASKED`.
     pub lines: u8,
+    pub inputs: Inputs,
+}
+
+/// A check of the answer document of a search for the same inputs, pointers and lines.
+#[derive(Debug, Drop)]
+pub struct CheckJob {
+    /// How many pointers programs have, from 1 to `MAX_POINTERS`.
+    pub pointers: u8,
+    /// How many lines programs were to have at most, from 1 to `MAX_LINES`.
+    pub lines: u8,
+    /// The name of the file that holds the document.
+    pub answer: Text,
     pub inputs: Inputs,
 }
 
