@@ -44,13 +44,13 @@ IsSilent ReadFault old new = Keeps old new
 IsSilent OutOfMemory old new = Keeps old new
 IsSilent _ old new = Unit {0}
 
--- the status of an answer: whether a program was found, a document accepted, or all instances solved; or which budget was spent
-abbrev pub IsVerdict : Status → Type 0
-IsVerdict Done = Unit {0}
-IsVerdict No = Unit {0}
-IsVerdict SpentExpansions = Unit {0}
-IsVerdict SpentRun = Unit {0}
-IsVerdict _ = ⊥
+-- the status of an answer: whether a program was found, a document accepted, or all instances solved; or which budget or limit was spent
+abbrev pub IsAnswerStatus : Status → Type 0
+IsAnswerStatus Done = Unit {0}
+IsAnswerStatus No = Unit {0}
+IsAnswerStatus SpentExpansions = Unit {0}
+IsAnswerStatus SpentRun = Unit {0}
+IsAnswerStatus _ = ⊥
 
 -- what happens where the words are no job, whatever the shelf tells: usage is answered, but for a write fault or want of memory
 abbrev pub AnswersUsage : Status → Option (List ℕ) → Option (List ℕ) → Type 0

@@ -9,13 +9,13 @@ use Rattle.program_model.specs.Program.{Program, IsProgram}
 use Rattle.program_model.specs.Run.{Config, at}
 use Rattle.program_model.specs.Semantics.{Semantics}
 use Rattle.pointer_machine.specs.declared.pointing.Pointing.{Pointing}
+use Rattle.pointer_machine.specs.Machine.{MachineParts}
 use Rattle.pointer_machine.specs.Operations.{operations_of}
 use Rattle.pointer_machine.specs.Meaning.{meaning}
 use Rattle.pointer_machine.specs.Texts.{operation_texts}
 use Rattle.synthesis.specs.declared.bounds.TheConstants.{BUDGET, RUN_LIMIT}
-use Rattle.refutation_tree.specs.Covers.{nobody}
-use Rattle.refutation_tree.specs.Accepted.{IsAccepted}
 use Rattle.refutation_tree.specs.declared.evidence.Answer.{Answer}
+use Rattle.refutation_tree.specs.declared.evidence.Outcome.{Outcome}
 use Rattle.refutation_tree.specs.declared.evidence.Outcome.TheVariants as outcomes
 use Rattle.answer_reader.specs.Reading.{IsDocument}
 use Rattle.synthesis.specs.Search.{plain}
@@ -30,6 +30,11 @@ use Rattle.command_words.specs.declared.job.RunJob.{RunJob}
 use Rattle.bfgp_jobs.specs.declared.status.Status.{Status}
 use Rattle.bfgp_jobs.specs.declared.status.Status.TheVariants.{Done, No}
 use Rattle.command_words.specs.Words.{JobOf}
+use Rattle.bfgp_jobs.specs.Due.{IsAcceptedDocument}
+
+-- what the machine over these instances and so many pointers is made of
+abbrev pub posed_parts : TaskParts → List InstanceParts → ℕ → MachineParts
+posed_parts task instances pointers = record { task = task; tables = map (ground_of task) instances; pointers = pointers }
 
 -- the machine over these instances and so many pointers
 abbrev pub posed_machine : TaskParts → List InstanceParts → ℕ → Semantics Pointing
@@ -56,16 +61,20 @@ pub record AreEndsInGoal (task : TaskParts) (instances : List InstanceParts) (po
 abbrev pub IsProgramOver : TaskParts → ℕ → Program → Type 0
 IsProgramOver task pointers program = IsProgram (length (operations_of task pointers)) program
 
+-- no program of fewer than so many lines solves every instance
+abbrev pub NoneShorter : TaskParts → List InstanceParts → (pointers size : ℕ) → Type 0
+NoneShorter task instances pointers size = (program : Program) → IsProgramOver task pointers program → length program < size → SolvesEach task instances pointers program → ⊥
+
+-- no program of at most so many lines solves every instance
+abbrev pub NoneSolvesEach : TaskParts → List InstanceParts → (pointers lines : ℕ) → Type 0
+NoneSolvesEach task instances pointers lines = (program : Program) → IsProgramOver task pointers program → length program ≤ lines → SolvesEach task instances pointers program → ⊥
+
 -- a program of at most so many lines that solves every instance, while none with fewer lines over the same pointers does
 pub record IsLeastSolution (task : TaskParts) (instances : List InstanceParts) (pointers lines : ℕ) (program : Program) : Type 0 where
   pub is_program : IsProgramOver task pointers program
   pub at_most : length program ≤ lines
   pub solves : SolvesEach task instances pointers program
-  pub least : (other : Program) → IsProgramOver task pointers other → length other < length program → SolvesEach task instances pointers other → ⊥
-
--- no program of at most so many lines solves every instance
-abbrev pub NoneSolvesEach : TaskParts → List InstanceParts → ℕ → ℕ → Type 0
-NoneSolvesEach task instances pointers lines = (program : Program) → IsProgramOver task pointers program → length program ≤ lines → SolvesEach task instances pointers program → ⊥
+  pub least : NoneShorter task instances pointers (length program)
 
 -- the answer gives such a program, and the steps after which its runs end
 pub record GivesLeast (task : TaskParts) (instances : List InstanceParts) (pointers lines : ℕ) (answer : Answer) : Type 0 where
@@ -74,6 +83,14 @@ pub record GivesLeast (task : TaskParts) (instances : List InstanceParts) (point
   pub found : answer.outcome ≡ outcomes.Program (length program)
   pub given : answer.program ≡ Some program
   pub ends : AreEndsInGoal task instances pointers program answer.ends
+
+-- what an accepted answer shows, by its outcome: its program is a least solution; or there is none of at most as many lines as were
+-- asked for; or, where a budget was spent, none of fewer lines than the size at which it was
+abbrev pub Shows : TaskParts → List InstanceParts → (pointers lines : ℕ) → Answer → Outcome → Type 0
+Shows task instances pointers lines answer (outcomes.Program size) = GivesLeast task instances pointers lines answer
+Shows task instances pointers lines answer outcomes.Nothing = NoneSolvesEach task instances pointers lines
+Shows task instances pointers lines answer (outcomes.SpentExpansions size) = NoneShorter task instances pointers size
+Shows task instances pointers lines answer (outcomes.SpentRun size t) = NoneShorter task instances pointers size
 
 -- bytes were written that read back as this answer, and as no other, where these are the texts of the operations
 pub record SaysAnswer (texts : List (List ℕ)) (old new : Option (List ℕ)) (answer : Answer) : Type 0 where
@@ -102,28 +119,23 @@ pub record RefutesAll (job : SynthJob) (files : Files) (old new : Option (List �
   pub searched : IsAnswer (plain (posed_machine posed.task posed.instances job.pointers) RUN_LIMIT) BUDGET job.lines answer
   pub written : SaysAnswer (operation_texts posed.task job.pointers) old new answer
 
--- the files hold the document of an answer, and the task and the instances that it is for
-pub record PosesDocument (job : CheckJob) (files : Files) : Type 0 where
+-- the files hold a task and instances of it, and the answer file holds some bytes
+pub record PosesCheck (job : CheckJob) (files : Files) : Type 0 where
   pub posed : Poses job.inputs files
   pub bytes : List ℕ
   pub held : files job.answer ≡ Some bytes
 
--- the answer file holds the document of one answer that is accepted for as many lines as the words tell. Where it is that a program
--- was found, that program of the document is a least one; where it is that there is none, no program of at most so many lines
--- solves every instance
+-- the answer file holds the document of one answer, which is accepted for as many lines as the words tell, and what it says is so
 pub record DocumentShows (job : CheckJob) (files : Files) : Type 0 where
-  pub poses : PosesDocument job files
-  pub answer : Answer
-  pub says : IsDocument (operation_texts poses.posed.task job.pointers) poses.bytes answer
-  pub only : (other : Answer) → IsDocument (operation_texts poses.posed.task job.pointers) poses.bytes other → other ≡ answer
-  pub accepted : IsAccepted (posed_machine poses.posed.task poses.posed.instances job.pointers) nobody job.lines answer
-  pub program : (size : ℕ) → answer.outcome ≡ outcomes.Program size → GivesLeast poses.posed.task poses.posed.instances job.pointers job.lines answer
-  pub nothing : answer.outcome ≡ outcomes.Nothing → NoneSolvesEach poses.posed.task poses.posed.instances job.pointers job.lines
+  pub poses : PosesCheck job files
+  pub is_accepted : IsAcceptedDocument (posed_parts poses.posed.task poses.posed.instances job.pointers) job.lines poses.bytes
+  pub only : (other : Answer) → IsDocument (operation_texts poses.posed.task job.pointers) poses.bytes other → other ≡ is_accepted.answer
+  pub shows : Shows poses.posed.task poses.posed.instances job.pointers job.lines is_accepted.answer is_accepted.answer.outcome
 
--- the answer file holds no document of an answer that is accepted for as many lines as the words tell
+-- the answer file holds no document that is accepted for as many lines as the words tell
 pub record DocumentFails (job : CheckJob) (files : Files) : Type 0 where
-  pub poses : PosesDocument job files
-  pub fails : (answer : Answer) → IsDocument (operation_texts poses.posed.task job.pointers) poses.bytes answer → IsAccepted (posed_machine poses.posed.task poses.posed.instances job.pointers) nobody job.lines answer → ⊥
+  pub poses : PosesCheck job files
+  pub fails : IsAcceptedDocument (posed_parts poses.posed.task poses.posed.instances job.pointers) job.lines poses.bytes → ⊥
 
 -- the files hold a program, and the task and the instances that it is for
 pub record PosesProgram (job : RunJob) (files : Files) : Type 0 where

@@ -5,7 +5,7 @@ use Rattle.flag_rules.specs.Line.{lines_of}
 use Rattle.program_model.specs.declared.alphabet.TheConstants.{MAX_LINES}
 use Rattle.program_model.specs.declared.machine.TheConstants.{MAX_INSTANCES, MAX_POINTERS}
 use Rattle.interpreter.specs.declared.plain_run.TheConstants.{MAX_RUN}
-use Rattle.command_words.specs.declared.job.TheConstants.{LEAST_RUN, MAX_LINES_ASKED, USUAL_RUN}
+use Rattle.command_words.specs.declared.job.TheConstants.{LEAST_RUN, MAX_SYNTH_LINES, USUAL_RUN}
 use Rattle.command_words.specs.declared.job.Job.{Job}
 use Rattle.command_words.specs.declared.job.Job.TheVariants.{Synth, Check, Run}
 use Rattle.command_words.specs.declared.job.Inputs.{Inputs}
@@ -40,7 +40,7 @@ pub record IsSynthJob (job : SynthJob) : Type 0 where
   pub some_pointers : 0 < job.pointers
   pub few_pointers : job.pointers ≤ MAX_POINTERS
   pub some_lines : 0 < job.lines
-  pub few_lines : job.lines ≤ MAX_LINES_ASKED
+  pub few_lines : job.lines ≤ MAX_SYNTH_LINES
   pub inputs : AreInputs job.inputs
 
 -- the numbers of a check are within their limits

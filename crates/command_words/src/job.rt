@@ -1,7 +1,7 @@
 use flag_rules::{List, Text};
 
 /// The greatest number of lines that `synth` takes so far.
-pub const MAX_LINES_ASKED: u8 = 3;
+pub const MAX_SYNTH_LINES: u8 = 3;
 
 /// The least limit of steps that `run` takes.
 pub const LEAST_RUN: u64 = 4;
@@ -25,7 +25,7 @@ pub enum Job {
 pub struct SynthJob {
     /// How many pointers programs have, from 1 to `MAX_POINTERS`.
     pub pointers: u8,
-    /// How many lines programs have at most, from 1 to `MAX_LINES_ASKED`.
+    /// How many lines programs have at most, from 1 to `MAX_SYNTH_LINES`.
     pub lines: u8,
     pub inputs: Inputs,
 }
