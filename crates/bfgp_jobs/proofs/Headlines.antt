@@ -5,6 +5,7 @@ use Rattle.std.proofs.lemmas.Slice.Zip.{AllZip-long}
 use Rattle.bfgp_outside.specs.Shelf.{Files}
 use Rattle.bfgp_outside.specs.Sink.{Appends}
 use Rattle.flag_rules.specs.declared.file.TheConstants.{MAX_FILE_BYTES}
+use Rattle.ground_state.specs.declared.parts.TaskParts.{TaskParts}
 use Rattle.ground_state.specs.declared.parts.InstanceParts.{InstanceParts}
 use Rattle.ground_state.specs.Instance.{IsInstance}
 use Rattle.ground_state.specs.Ground.{ground_of}
@@ -23,52 +24,104 @@ use Rattle.instance_report.proofs.Solving.{solved_exactly, unsolved_somewhere}
 use Rattle.refutation_tree.specs.declared.evidence.Answer.{Answer}
 use Rattle.refutation_tree.specs.declared.evidence.Outcome.{Outcome}
 use Rattle.refutation_tree.specs.declared.evidence.Outcome.TheVariants as outcomes
-use Rattle.refutation_tree.specs.Accepted.{IsAccepted, ShowsLeast, NoneSolves}
+use Rattle.refutation_tree.specs.Accepted.{IsAccepted, IsSpentAt}
 use Rattle.refutation_tree.specs.Covers.{nobody}
 use Rattle.refutation_tree.specs.Grammar.{IsGrammatical, FitsOutcome}
 use Rattle.refutation_tree.proofs.Covering.{nobody_is_fair}
-use Rattle.refutation_tree.proofs.Holding.{accepted_least, accepted_none}
+use Rattle.refutation_tree.proofs.Holding.{accepted_least, accepted_none, accepted_spent}
 use Rattle.answer_writer.specs.Document.{document}
 use Rattle.answer_reader.specs.Reading.{IsDocument}
-use Rattle.answer_reader.proofs.Said.{reads_one}
 use Rattle.synthesis.specs.declared.bounds.TheConstants.{BUDGET, RUN_LIMIT}
 use Rattle.synthesis.specs.Search.{plain}
 use Rattle.synthesis.specs.Answers.{IsAnswer}
 use Rattle.synthesis.proofs.Accepting.{searched_accepted}
 use Rattle.command_words.specs.declared.job.Job.{Job}
-use Rattle.command_words.specs.declared.job.Job.TheVariants.{Synth, Run}
+use Rattle.command_words.specs.declared.job.Job.TheVariants.{Synth, Check, Run}
 use Rattle.command_words.specs.declared.job.SynthJob.{SynthJob}
+use Rattle.command_words.specs.declared.job.CheckJob.{CheckJob}
 use Rattle.command_words.specs.declared.job.RunJob.{RunJob}
-use Rattle.command_words.specs.Words.{JobOf, IsSynthJob, IsJob}
+use Rattle.command_words.specs.Words.{JobOf, IsSynthJob, IsCheckJob, IsJob}
 use Rattle.command_words.proofs.OneJob.{job_kept}
 use Rattle.input_reading.specs.Posed.{Poses, HoldsInstance}
 use Rattle.input_reading.specs.Steps.{goes_on}
+use Rattle.input_reading.specs.Inputs.{machine_due}
 use Rattle.input_reading.proofs.Held.{machine_held, whole_held}
 use Rattle.input_reading.proofs.OperationNames.{operations-named}
+use Rattle.bfgp_jobs.specs.declared.check.TheConstants.{MAX_DOCUMENT_BYTES}
 use Rattle.bfgp_jobs.specs.declared.status.Status.{Status}
 use Rattle.bfgp_jobs.specs.declared.status.Status.TheVariants.{Done, No, Usage, Input, SpentExpansions, SpentRun, ReadFault, WriteFault, OutOfMemory}
 use Rattle.bfgp_jobs.specs.Reply.{Reply}
-use Rattle.bfgp_jobs.specs.Due.{Due, answer, fault, usage, synth_due, run_due, job_due, status_of, report_status}
-use Rattle.bfgp_jobs.specs.Headline.{Headline, Succeeds, Refutes, posed_machine, SaysAnswer, FindsLeast, RefutesAll, PosesProgram, ProgramSolves, ProgramFails}
+use Rattle.bfgp_jobs.specs.Due.{Due, answer, fault, usage, synth_due, check_due, run_due, job_due, status_of, report_status, VerdictDue, accepted, rejected}
+use Rattle.bfgp_jobs.specs.Headline.{Headline, Succeeds, Refutes, posed_parts, posed_machine, NoneShorter, NoneSolvesEach, GivesLeast, Shows, SaysAnswer, FindsLeast, RefutesAll, PosesCheck, DocumentShows, DocumentFails, PosesProgram, ProgramSolves, ProgramFails}
 use Rattle.bfgp_jobs.specs.Inner.Replying.{Writes}
+use Rattle.bfgp_jobs.proofs.Checks.{one_document}
 use Rattle.bfgp_jobs.proofs.Runs.{program_over}
 use Rattle.bfgp_jobs.proofs.GoalRuns.{solves_each, each_within, fails_one, solves_all, ends_each}
 
+-- ---- what an accepted answer shows
+-- instances of a task, as parts that are valid
+abbrev pub AreFit : TaskParts → List InstanceParts → Type 0
+AreFit task instances = (t : ℕ) (instance : InstanceParts) → slice_get instances t ≡ Some instance → IsInstance task instance
+
+module _ (task : TaskParts) (instances : List InstanceParts) (pointers lines : ℕ) (fit : AreFit task instances) (found : Answer) (is_accepted : IsAccepted (posed_machine task instances pointers) nobody lines found) where
+  -- its program is a least one
+  gives_least : (size : ℕ) → found.outcome ≡ outcomes.Program size → GivesLeast task instances pointers lines found
+  gives_least size is =
+      let machine = posed_machine task instances pointers in
+      let shown = accepted_least machine nobody (nobody_is_fair machine) lines size found is_accepted is in
+      record {
+        program = shown.program;
+        is_least = record {
+          is_program = shown.least.is_program;
+          at_most = omega (arith, shown.size_is, shown.within);
+          solves = solves_each task instances pointers fit shown.program shown.least.solves;
+          least = λ other is_one fewer solved. shown.least.least other is_one fewer (solves_all task instances pointers fit other solved);
+        };
+        found = is ∙ ap outcomes.Program (sym shown.size_is);
+        given = shown.given;
+        ends = ends_each task instances pointers fit shown.program found.ends shown.ends;
+      }
+
+  -- there is none where it says so
+  none_solves_each : found.outcome ≡ outcomes.Nothing → NoneSolvesEach task instances pointers lines
+  none_solves_each is program is_one few solved =
+      let machine = posed_machine task instances pointers in
+      accepted_none machine nobody (nobody_is_fair machine) lines found is_accepted is program is_one few (solves_all task instances pointers fit program solved)
+
+  -- there is none of fewer lines than the size at which a budget was spent
+  none_shorter : (size : ℕ) → IsSpentAt size found.outcome → NoneShorter task instances pointers size
+  none_shorter size is program is_one fewer solved =
+      let machine = posed_machine task instances pointers in
+      accepted_spent machine nobody (nobody_is_fair machine) lines size found is_accepted is program is_one fewer (solves_all task instances pointers fit program solved)
+
+  -- so what it says is so
+  shows : (outcome : Outcome) → found.outcome ≡ outcome → Shows task instances pointers lines found outcome
+  shows (outcomes.Program size) is = gives_least size is
+  shows outcomes.Nothing is = none_solves_each is
+  shows (outcomes.SpentExpansions size) is = none_shorter size (subst (IsSpentAt size) (sym is) refl)
+  shows (outcomes.SpentRun size t) is = none_shorter size (subst (IsSpentAt size) (sym is) refl)
+
 -- ---- a reply of `synth`
--- what is posed, and the search's answer on it
-record Answered (files : Files) (job : SynthJob) (reply : Reply) : Type 0 where
-  posed : Poses job.inputs files
-  fit : (t : ℕ) (instance : InstanceParts) → slice_get posed.instances t ≡ Some instance → IsInstance posed.task instance
-  found : Answer
+-- what is posed, the machine over it, and the search's answer on it
+pub record Answered (files : Files) (job : SynthJob) (reply : Reply) : Type 0 where
+  pub posed : Poses job.inputs files
+  pub machine : MachineParts
+  pub made : machine_due files job.inputs job.pointers (Ok machine)
+  pub machine_is : machine ≡ posed_parts posed.task posed.instances job.pointers
+  fit : AreFit posed.task posed.instances
+  pub found : Answer
   is_answer : IsAnswer (plain (posed_machine posed.task posed.instances job.pointers) RUN_LIMIT) BUDGET job.lines found
-  is : reply ≡ record { status = status_of found.outcome; text = document (operation_texts posed.task job.pointers) found }
+  pub is : reply ≡ record { status = status_of found.outcome; text = document (operation_texts posed.task job.pointers) found }
   named : AreNames (operation_texts posed.task job.pointers)
 
-answered : (files : Files) (job : SynthJob) (reply : Reply) → IsSynthJob job → synth_due files job (Ok reply) → Answered files job reply
+pub answered : (files : Files) (job : SynthJob) (reply : Reply) → IsSynthJob job → synth_due files job (Ok reply) → Answered files job reply
 answered files job reply is_job (goes_on {a = machine} made found) =
     let held = machine_held files job.inputs job.pointers machine made in
     record {
       posed = held.posed;
+      machine = machine;
+      made = made;
+      machine_is = held.is;
       fit = held.fit;
       found = found.0;
       is_answer = subst (λ (m : MachineParts). IsAnswer (plain (meaning_of m) RUN_LIMIT) BUDGET job.lines found.0) held.is found.1;
@@ -103,8 +156,8 @@ module _ (files : Files) (job : SynthJob) (is_job : IsSynthJob job) (reply : Rep
   ops = length-map (operations_of known.posed.task job.pointers) (form_text known.posed.task)
 
   -- the answer is accepted
-  accepted : IsAccepted machine nobody lines known.found
-  accepted =
+  pub answer_accepted : IsAccepted machine nobody lines known.found
+  answer_accepted =
       let count = length-operations known.posed.task job.pointers in
       let tables = length-map known.posed.instances (ground_of known.posed.task) in
       let given = AllZip-long (HoldsInstance files known.posed.domain) job.inputs.instances known.posed.instances known.posed.instances_are in
@@ -116,39 +169,27 @@ module _ (files : Files) (job : SynthJob) (is_job : IsSynthJob job) (reply : Rep
       (is_job.some_lines, omega (arith, is_job.few_lines))
       known.is_answer
 
-  shows_least : (size : ℕ) → known.found.outcome ≡ outcomes.Program size → ShowsLeast machine size lines known.found
-  shows_least size is = accepted_least machine nobody (nobody_is_fair machine) lines size known.found accepted is
-
-  none_solves : known.found.outcome ≡ outcomes.Nothing → NoneSolves machine lines
-  none_solves is = accepted_none machine nobody (nobody_is_fair machine) lines known.found accepted is
+  -- the document says it
+  pub document_says : IsDocument texts (document texts known.found) known.found
+  document_says = (subst (λ (n : ℕ). IsGrammatical n known.found) (sym ops) answer_accepted.grammatical, refl)
 
   -- what was written says this answer, and no other
   writes_answer : (old new : Option (List ℕ)) → Appends old new reply.text → SaysAnswer texts old new known.found
-  writes_answer old new appended =
-      let says : IsDocument texts (document texts known.found) known.found = (subst (λ (n : ℕ). IsGrammatical n known.found) (sym ops) accepted.grammatical, refl) in
-      record {
-        bytes = document texts known.found;
-        appended = subst (λ (r : Reply). Appends old new r.text) known.is appended;
-        says = says;
-        only = λ other says_too. let same = reads_one texts (document texts known.found) (Ok other) (Ok known.found) known.named says_too says (λ is. absurd (cc)) (λ is. absurd (cc)) in cc;
-      }
+  writes_answer old new appended = record {
+    bytes = document texts known.found;
+    appended = subst (λ (r : Reply). Appends old new r.text) known.is appended;
+    says = document_says;
+    only = λ other says_too. one_document texts (document texts known.found) other known.found known.named says_too document_says;
+  }
 
   -- with status 0 a program solves, and none with fewer lines does
   finds : (old new : Option (List ℕ)) → reply.status ≡ Done → Appends old new reply.text → FindsLeast job files old new
   finds old new done appended =
       let outcome = done_is known.found.outcome (sym (ap (λ (r : Reply). r.status) known.is) ∙ done) in
-      let shown = shows_least outcome.0 outcome.1 in
       record {
         posed = known.posed;
-        program = shown.program;
-        is_program = shown.least.is_program;
-        at_most = omega (arith, shown.size_is, shown.within);
-        solves = solves_each known.posed.task known.posed.instances job.pointers known.fit shown.program shown.least.solves;
-        least = λ other is_one fewer solved. shown.least.least other is_one fewer (solves_all known.posed.task known.posed.instances job.pointers known.fit other solved);
         answer = known.found;
-        found = outcome.1 ∙ ap outcomes.Program (sym shown.size_is);
-        given = shown.given;
-        ends = ends_each known.posed.task known.posed.instances job.pointers known.fit shown.program known.found.ends shown.ends;
+        gives = gives_least known.posed.task known.posed.instances job.pointers lines known.fit known.found answer_accepted outcome.0 outcome.1;
         searched = known.is_answer;
         written = writes_answer old new appended;
       }
@@ -159,19 +200,56 @@ module _ (files : Files) (job : SynthJob) (is_job : IsSynthJob job) (reply : Rep
       let outcome = no_is known.found.outcome (sym (ap (λ (r : Reply). r.status) known.is) ∙ refuted) in
       record {
         posed = known.posed;
-        none = λ program is_one few solved. none_solves outcome program is_one few (solves_all known.posed.task known.posed.instances job.pointers known.fit program solved);
+        none = none_solves_each known.posed.task known.posed.instances job.pointers lines known.fit known.found answer_accepted outcome;
         answer = known.found;
         nothing = outcome;
-        no_program = (subst (FitsOutcome machine.ops known.found) outcome accepted.grammatical.outcome).0;
+        no_program = (subst (FitsOutcome machine.ops known.found) outcome answer_accepted.grammatical.outcome).0;
         searched = known.is_answer;
         written = writes_answer old new appended;
       }
+
+-- ---- a reply of `check`
+-- what is posed, and the verdict on the document that its file holds
+record Checked (files : Files) (job : CheckJob) (reply : Reply) : Type 0 where
+  poses : PosesCheck job files
+  fit : AreFit poses.posed.task poses.posed.instances
+  named : AreNames (operation_texts poses.posed.task job.pointers)
+  verdict : VerdictDue (posed_parts poses.posed.task poses.posed.instances job.pointers) job.lines poses.bytes (Ok reply)
+
+checked : (files : Files) (job : CheckJob) (reply : Reply) → IsCheckJob job → check_due files job (Ok reply) → Checked files job reply
+checked files job reply is_job (goes_on {a = machine} made (goes_on {a = bytes} read verdict)) =
+    let held = machine_held files job.inputs job.pointers machine made in
+    record {
+      poses = record { posed = held.posed; bytes = bytes; held = whole_held (files job.answer) MAX_DOCUMENT_BYTES bytes read };
+      fit = held.fit;
+      named = operations-named held.posed.task job.pointers held.is_task is_job.some_pointers is_job.few_pointers held.few;
+      verdict = subst (λ (m : MachineParts). VerdictDue m job.lines bytes (Ok reply)) held.is verdict;
+    }
+
+module _ (files : Files) (job : CheckJob) (poses : PosesCheck job files) (fit : AreFit poses.posed.task poses.posed.instances) (named : AreNames (operation_texts poses.posed.task job.pointers)) where
+  abbrev parts : MachineParts
+  parts = posed_parts poses.posed.task poses.posed.instances job.pointers
+
+  -- with status 0 the document is that of an accepted answer
+  document_shows : (reply : Reply) → VerdictDue parts job.lines poses.bytes (Ok reply) → reply.status ≡ Done → DocumentShows job files
+  document_shows _ (accepted is) done = record {
+    poses = poses;
+    is_accepted = is;
+    only = λ other says_too. one_document (operation_texts poses.posed.task job.pointers) poses.bytes other is.answer named says_too is.says;
+    shows = shows poses.posed.task poses.posed.instances job.pointers job.lines fit is.answer is.accepted is.answer.outcome refl;
+  }
+  document_shows _ (rejected none) done = absurd (cc)
+
+  -- with status 1 it is not
+  document_fails : (reply : Reply) → VerdictDue parts job.lines poses.bytes (Ok reply) → reply.status ≡ No → DocumentFails job files
+  document_fails _ (accepted is) refuted = absurd (cc)
+  document_fails _ (rejected none) refuted = record { poses = poses; fails = none }
 
 -- ---- a reply of `run`
 -- what is posed, the program that its file holds, and the report on its runs
 record Reported (files : Files) (job : RunJob) (reply : Reply) : Type 0 where
   posed : Poses job.inputs files
-  fit : (t : ℕ) (instance : InstanceParts) → slice_get posed.instances t ≡ Some instance → IsInstance posed.task instance
+  fit : AreFit posed.task posed.instances
   bytes : List ℕ
   held : files job.program ≡ Some bytes
   program : Program
@@ -236,20 +314,22 @@ module _ (files : Files) (job : RunJob) (reply : Reply) (known : Reported files 
 -- with status 0
 succeeds : (files : Files) (job : Job) (reply : Reply) (old new : Option (List ℕ)) → IsJob job → job_due files job (Ok reply) → reply.status ≡ Done → Appends old new reply.text → Succeeds job files old new
 succeeds files (Synth job) reply old new is_job here done appended = finds files job is_job reply (answered files job reply is_job here) old new done appended
+succeeds files (Check job) reply old new is_job here done appended = let known = checked files job reply is_job here in document_shows files job known.poses known.fit known.named reply known.verdict done
 succeeds files (Run job) reply old new is_job here done appended = program_solves files job reply (reported files job reply here) done
 
 -- with status 1
 refuted : (files : Files) (job : Job) (reply : Reply) (old new : Option (List ℕ)) → IsJob job → job_due files job (Ok reply) → reply.status ≡ No → Appends old new reply.text → Refutes job files old new
 refuted files (Synth job) reply old new is_job here status appended = refutes files job is_job reply (answered files job reply is_job here) old new status appended
+refuted files (Check job) reply old new is_job here status appended = let known = checked files job reply is_job here in document_fails files job known.poses known.fit known.named reply known.verdict status
 refuted files (Run job) reply old new is_job here status appended = program_fails files job reply (reported files job reply here) status
 
 -- a reply that tells neither a fault nor the usage is what a job comes to
-record Concluded (words : List (List ℕ)) (files : Files) (reply : Reply) : Type 0 where
-  job : Job
-  job_is : JobOf words job
-  comes : job_due files job (Ok reply)
+pub record Concluded (words : List (List ℕ)) (files : Files) (reply : Reply) : Type 0 where
+  pub job : Job
+  pub job_is : JobOf words job
+  pub comes : job_due files job (Ok reply)
 
-concluded : (words : List (List ℕ)) (files : Files) (reply : Reply) → ((reply.status ≡ Input) → ⊥) → ((reply.status ≡ Usage) → ⊥) → Due words files reply → Concluded words files reply
+pub concluded : (words : List (List ℕ)) (files : Files) (reply : Reply) → ((reply.status ≡ Input) → ⊥) → ((reply.status ≡ Usage) → ⊥) → Due words files reply → Concluded words files reply
 concluded words files reply no_input no_usage (answer job job_is here) = record { job = job; job_is = job_is; comes = here }
 concluded words files _ no_input no_usage (fault job job_is here) = absurd (no_input refl)
 concluded words files _ no_input no_usage (usage none) = absurd (no_usage refl)

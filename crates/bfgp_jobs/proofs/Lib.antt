@@ -1,9 +1,12 @@
 pub mod Statuses
 pub mod Sequels
+pub mod FurtherFile
 pub mod Searches
+pub mod Checks
 pub mod Runs
 pub mod Outcomes
 pub mod GoalRuns
 pub mod Headlines
+pub mod Accepting
 pub mod OneReply
 pub mod Written

@@ -1,5 +1,6 @@
 -- One reply is due at most.
 use Rattle.std.proofs.Common.{◌≡◌, ℕ, List, Result, Ok, Err, refl, sym, ◌∙◌, ap, subst}
+use Rattle.flag_rules.specs.declared.file.TheConstants.{MAX_FILE_BYTES}
 use Rattle.bfgp_outside.specs.Shelf.{Files}
 use Rattle.program_model.specs.Program.{Program, IsProgram}
 use Rattle.instance_report.specs.declared.answer.Report.{Report}
@@ -12,13 +13,14 @@ use Rattle.answer_writer.specs.Document.{document}
 use Rattle.synthesis.specs.Search.{plain}
 use Rattle.synthesis.proofs.SameAnswers.{same_answer}
 use Rattle.command_words.specs.declared.job.Job.{Job}
-use Rattle.command_words.specs.declared.job.Job.TheVariants.{Synth, Run}
+use Rattle.command_words.specs.declared.job.Job.TheVariants.{Synth, Check, Run}
 use Rattle.command_words.specs.Words.{IsJob, JobOf}
 use Rattle.command_words.proofs.OneJob.{job_kept, JobOf-unique}
 use Rattle.bfgp_jobs.specs.Reply.{Reply}
 use Rattle.input_reading.proofs.Decided.{IsDecided, then_decided, tell_decided}
 use Rattle.input_reading.proofs.OneResult.{file_decided, machine_decided, machine_named, program_definite}
-use Rattle.bfgp_jobs.specs.Due.{Due, answer, fault, usage, fault_reply, answer_due, report_due, job_due, status_of, report_status}
+use Rattle.bfgp_jobs.specs.declared.check.TheConstants.{MAX_DOCUMENT_BYTES}
+use Rattle.bfgp_jobs.specs.Due.{Due, answer, fault, usage, fault_reply, answer_due, VerdictDue, accepted, rejected, report_due, job_due, status_of, report_status}
 use Rattle.bfgp_jobs.proofs.Runs.{program_over}
 
 answer_decided : (machine : MachineParts) (lines : ℕ) → IsDecided (answer_due machine lines)
@@ -31,6 +33,15 @@ answer_decided machine lines = record { one = both }
     both (Ok x) (Ok y) p q = ap Ok (p.2 ∙ ap reply_with (same_answer (plain (meaning_of machine) RUN_LIMIT) BUDGET lines p.0 q.0 p.1 q.1) ∙ sym q.2)
     both (Ok x) (Err y) p q = absurd q
     both (Err x) s p q = absurd p
+
+verdict_decided : (machine : MachineParts) (lines : ℕ) (bytes : List ℕ) → IsDecided (VerdictDue machine lines bytes)
+verdict_decided machine lines bytes = record { one = both }
+  where
+    both : (r s : Result Reply (List ℕ)) → VerdictDue machine lines bytes r → VerdictDue machine lines bytes s → r ≡ s
+    both _ _ (accepted is) (accepted is_too) = refl
+    both _ _ (accepted is) (rejected none) = absurd (none is)
+    both _ _ (rejected none) (accepted is) = absurd (none is)
+    both _ _ (rejected none) (rejected none_too) = refl
 
 report_decided : (machine : MachineParts) (limit : ℕ) (program : Program) → IsProgram (meaning_of machine).ops program → IsDecided (report_due machine limit program)
 report_decided machine limit program whole = record { one = both }
@@ -47,9 +58,13 @@ job_decided : (files : Files) (job : Job) → IsJob job → IsDecided (job_due f
 job_decided files (Synth job) is =
     then_decided (machine_decided files job.inputs job.pointers) (λ machine made.
     answer_decided machine job.lines)
+job_decided files (Check job) is =
+    then_decided (machine_decided files job.inputs job.pointers) (λ machine made.
+    then_decided (file_decided files MAX_DOCUMENT_BYTES job.answer) (λ bytes read.
+    verdict_decided machine job.lines bytes))
 job_decided files (Run job) is =
     then_decided (machine_decided files job.inputs job.pointers) (λ machine made.
-    then_decided (file_decided files job.program) (λ bytes read.
+    then_decided (file_decided files MAX_FILE_BYTES job.program) (λ bytes read.
     then_decided (tell_decided job.program (program_definite (operation_texts machine.task machine.pointers) bytes (machine_named files job.inputs job.pointers is.some_pointers is.few_pointers machine made))) (λ program reads.
     report_decided machine job.run program (program_over machine bytes program reads))))
 

@@ -17,8 +17,8 @@ use Rattle.bfgp_jobs.specs.declared.replying.NoReply.{NoReply}
 use Rattle.bfgp_jobs.specs.declared.status.Status.TheVariants.{Input}
 use Rattle.bfgp_jobs.specs.Reply.{Reply}
 use Rattle.bfgp_jobs.specs.Due.{Due, answer, fault, usage, usage_reply, job_due}
-use Rattle.bfgp_jobs.specs.Answers.{AsksForNamed, files_of}
-use Rattle.bfgp_jobs.specs.Inner.Replying.{told, lacks_file, IsVerdict, IsReplyStatus, RepliesUsage}
+use Rattle.bfgp_jobs.specs.Answers.{AsksForNamed, IsAnswerStatus, files_of}
+use Rattle.bfgp_jobs.specs.Inner.Replying.{told, lacks_file, IsReplyStatus, RepliesUsage}
 use Rattle.bfgp_jobs.proofs.Statuses.{verdict_replies, verdict_no_input, verdict_no_usage}
 
 -- what a job's code gives is due
@@ -41,32 +41,32 @@ usage_known known words reply none is = knowing known (λ files. Unit {0}) (λ f
     all None = tt
 
 -- a job is not answered by the usage text
-pub job_usage : (words : List (List ℕ)) (job : Job) (outcome : Result Reply Halt) (result : Result Reply NoReply) → JobOf words job → result ≡ told outcome → IfOk outcome (λ reply. IsVerdict reply.status) → RepliesUsage words result
+pub job_usage : (words : List (List ℕ)) (job : Job) (outcome : Result Reply Halt) (result : Result Reply NoReply) → JobOf words job → result ≡ told outcome → IfOk outcome (λ reply. IsAnswerStatus reply.status) → RepliesUsage words result
 job_usage words job outcome result is same verdict = subst (RepliesUsage words) (sym same) (by_outcome outcome verdict)
   where
-    by_outcome : (o : Result Reply Halt) → IfOk o (λ reply. IsVerdict reply.status) → RepliesUsage words (told o)
+    by_outcome : (o : Result Reply Halt) → IfOk o (λ reply. IsAnswerStatus reply.status) → RepliesUsage words (told o)
     by_outcome (Ok reply) verdict = record { no_job = λ none. absurd (none job is); a_job = λ other other_is same. verdict_no_usage reply.status verdict same }
     by_outcome (Err (Refused line)) verdict = record { no_job = λ none. absurd (none job is); a_job = λ other other_is same. absurd (cc) }
     by_outcome (Err ReadFault) verdict = record { no_job = λ none. absurd (none job is); a_job = λ other other_is. tt }
     by_outcome (Err OutOfMemory) verdict = record { no_job = λ none. absurd (none job is); a_job = λ other other_is. tt }
 
 -- where a job is answered with the status of an input, a fault is told
-pub job_input : (absences absences_now : ℕ) (outcome : Result Reply Halt) (result : Result Reply NoReply) → result ≡ told outcome → IfOk outcome (λ reply. IsVerdict reply.status) → IfErr outcome (HaltCause absences absences_now) → IfOk result (λ reply. reply.status ≡ Input → TellsFault absences absences_now reply.text)
+pub job_input : (absences absences_now : ℕ) (outcome : Result Reply Halt) (result : Result Reply NoReply) → result ≡ told outcome → IfOk outcome (λ reply. IsAnswerStatus reply.status) → IfErr outcome (HaltCause absences absences_now) → IfOk result (λ reply. reply.status ≡ Input → TellsFault absences absences_now reply.text)
 job_input absences absences_now outcome result same verdict cause = subst Tells (sym same) (by_outcome outcome verdict cause)
   where
     Tells : Result Reply NoReply → Type 0
     Tells r = IfOk r (λ reply. reply.status ≡ Input → TellsFault absences absences_now reply.text)
 
-    by_outcome : (o : Result Reply Halt) → IfOk o (λ reply. IsVerdict reply.status) → IfErr o (HaltCause absences absences_now) → Tells (told o)
+    by_outcome : (o : Result Reply Halt) → IfOk o (λ reply. IsAnswerStatus reply.status) → IfErr o (HaltCause absences absences_now) → Tells (told o)
     by_outcome (Ok reply) verdict cause = λ input. absurd (verdict_no_input reply.status verdict input)
     by_outcome (Err (Refused line)) verdict cause = λ input. cause
     by_outcome (Err ReadFault) verdict cause = tt
     by_outcome (Err OutOfMemory) verdict cause = tt
 
-pub job_status : (outcome : Result Reply Halt) (result : Result Reply NoReply) → result ≡ told outcome → IfOk outcome (λ reply. IsVerdict reply.status) → IfOk result (λ reply. IsReplyStatus reply.status)
+pub job_status : (outcome : Result Reply Halt) (result : Result Reply NoReply) → result ≡ told outcome → IfOk outcome (λ reply. IsAnswerStatus reply.status) → IfOk result (λ reply. IsReplyStatus reply.status)
 job_status outcome result same verdict = subst (λ (r : Result Reply NoReply). IfOk r (λ reply. IsReplyStatus reply.status)) (sym same) (by_outcome outcome verdict)
   where
-    by_outcome : (o : Result Reply Halt) → IfOk o (λ reply. IsVerdict reply.status) → IfOk (told o) (λ reply. IsReplyStatus reply.status)
+    by_outcome : (o : Result Reply Halt) → IfOk o (λ reply. IsAnswerStatus reply.status) → IfOk (told o) (λ reply. IsReplyStatus reply.status)
     by_outcome (Ok reply) verdict = verdict_replies reply.status verdict
     by_outcome (Err (Refused line)) verdict = tt
     by_outcome (Err ReadFault) verdict = tt

@@ -15,11 +15,11 @@ use Rattle.synthesis.specs.declared.bounds.TheConstants.{BUDGET, RUN_LIMIT}
 use Rattle.synthesis.specs.Search.{plain}
 use Rattle.synthesis.specs.Answers.{IsAnswer}
 use Rattle.synthesis.proofs.Grammatical.{searched_grammatical}
-use Rattle.command_words.specs.declared.job.TheConstants.{MAX_LINES_ASKED}
+use Rattle.command_words.specs.declared.job.TheConstants.{MAX_SYNTH_LINES}
 use Rattle.bfgp_jobs.specs.declared.status.Status.{Status}
 use Rattle.bfgp_jobs.specs.Reply.{Reply}
 use Rattle.bfgp_jobs.specs.Due.{answer_due, status_of}
-use Rattle.bfgp_jobs.specs.Inner.Replying.{IsVerdict}
+use Rattle.bfgp_jobs.specs.Answers.{IsAnswerStatus}
 
 -- the reply with the document of a search's answer
 pub answer_is_due : (machine : MachineParts) (lines : ℕ) (answer : Answer) (status : Status) (names : List (List ℕ)) (reply : Reply) → IsAnswer (plain (meaning_of machine) RUN_LIMIT) BUDGET lines answer → status ≡ status_of answer.outcome → names ≡ operation_texts machine.task machine.pointers
@@ -27,17 +27,17 @@ pub answer_is_due : (machine : MachineParts) (lines : ℕ) (answer : Answer) (st
 answer_is_due machine lines answer status names reply found status_is names_are is =
     (answer, found, is ∙ λ i. record { status = status_is i; text = document (names_are i) answer })
 
-outcome_verdict : (outcome : Outcome) → IsVerdict (status_of outcome)
+outcome_verdict : (outcome : Outcome) → IsAnswerStatus (status_of outcome)
 outcome_verdict (outcomes.Program size) = tt
 outcome_verdict outcomes.Nothing = tt
 outcome_verdict (outcomes.SpentExpansions size) = tt
 outcome_verdict (outcomes.SpentRun size t) = tt
 
-pub answer_verdict : (outcome : Outcome) (status : Status) (text : List ℕ) (reply : Reply) → status ≡ status_of outcome → reply ≡ record { status = status; text = text } → IsVerdict reply.status
-answer_verdict outcome status text reply status_is is = subst IsVerdict (sym (ap (λ (r : Reply). r.status) is ∙ status_is)) (outcome_verdict outcome)
+pub answer_verdict : (outcome : Outcome) (status : Status) (text : List ℕ) (reply : Reply) → status ≡ status_of outcome → reply ≡ record { status = status; text = text } → IsAnswerStatus reply.status
+answer_verdict outcome status text reply status_is is = subst IsAnswerStatus (sym (ap (λ (r : Reply). r.status) is ∙ status_is)) (outcome_verdict outcome)
 
 -- the answer is of the grammar, over the names of the operations
-pub answer_is_grammatical : (machine : MachineParts) (lines : ℕ) (answer : Answer) (names : List (List ℕ)) → AreNames (operation_texts machine.task machine.pointers) → IsFromOneTo MAX_POINTERS machine.pointers → IsFromOneTo MAX_INSTANCES (length machine.tables) → 0 < lines → lines ≤ MAX_LINES_ASKED
+pub answer_is_grammatical : (machine : MachineParts) (lines : ℕ) (answer : Answer) (names : List (List ℕ)) → AreNames (operation_texts machine.task machine.pointers) → IsFromOneTo MAX_POINTERS machine.pointers → IsFromOneTo MAX_INSTANCES (length machine.tables) → 0 < lines → lines ≤ MAX_SYNTH_LINES
     → IsAnswer (plain (meaning_of machine) RUN_LIMIT) BUDGET lines answer → names ≡ operation_texts machine.task machine.pointers → IsGrammatical (length names) answer
 answer_is_grammatical machine lines answer names named pointers instances some few found names_are =
     let ops : length names ≡ length (operations_of machine.task machine.pointers) = ap length names_are ∙ length-map (operations_of machine.task machine.pointers) (form_text machine.task) in

@@ -3,10 +3,11 @@ use Rattle.std.proofs.Common.{◌≡◌, ◌≢◌, ℕ, ◌≤◌, Bool, true, 
 use Rattle.bfgp_outside.specs.Causes.{Rose, RoseIf}
 use Rattle.bfgp_jobs.specs.declared.status.Status.{Status}
 use Rattle.bfgp_jobs.specs.declared.status.Status.TheVariants.{Done, No, Usage, Input, SpentExpansions, SpentRun, ReadFault, WriteFault, OutOfMemory}
-use Rattle.bfgp_jobs.specs.Inner.Replying.{IsVerdict, IsReplyStatus, is_write_fault}
+use Rattle.bfgp_jobs.specs.Answers.{IsAnswerStatus}
+use Rattle.bfgp_jobs.specs.Inner.Replying.{IsReplyStatus, is_write_fault}
 
 -- the status of an answer is one of a reply
-pub verdict_replies : (status : Status) → IsVerdict status → IsReplyStatus status
+pub verdict_replies : (status : Status) → IsAnswerStatus status → IsReplyStatus status
 verdict_replies Done verdict = tt
 verdict_replies No verdict = tt
 verdict_replies SpentExpansions verdict = tt
@@ -18,7 +19,7 @@ verdict_replies WriteFault verdict = absurd verdict
 verdict_replies OutOfMemory verdict = absurd verdict
 
 -- it is not that of a fault
-pub verdict_no_input : (status : Status) → IsVerdict status → status ≡ Input → ⊥
+pub verdict_no_input : (status : Status) → IsAnswerStatus status → status ≡ Input → ⊥
 verdict_no_input Done verdict is = absurd (cc)
 verdict_no_input No verdict is = absurd (cc)
 verdict_no_input SpentExpansions verdict is = absurd (cc)
@@ -30,7 +31,7 @@ verdict_no_input WriteFault verdict is = absurd verdict
 verdict_no_input OutOfMemory verdict is = absurd verdict
 
 -- nor that of usage
-pub verdict_no_usage : (status : Status) → IsVerdict status → status ≡ Usage → ⊥
+pub verdict_no_usage : (status : Status) → IsAnswerStatus status → status ≡ Usage → ⊥
 verdict_no_usage Done verdict is = absurd (cc)
 verdict_no_usage No verdict is = absurd (cc)
 verdict_no_usage SpentExpansions verdict is = absurd (cc)
@@ -40,6 +41,18 @@ verdict_no_usage Input verdict is = absurd verdict
 verdict_no_usage ReadFault verdict is = absurd verdict
 verdict_no_usage WriteFault verdict is = absurd verdict
 verdict_no_usage OutOfMemory verdict is = absurd verdict
+
+-- nor that of a write fault
+pub verdict_no_write : (status : Status) → IsAnswerStatus status → status ≡ WriteFault → ⊥
+verdict_no_write Done verdict is = absurd (cc)
+verdict_no_write No verdict is = absurd (cc)
+verdict_no_write SpentExpansions verdict is = absurd (cc)
+verdict_no_write SpentRun verdict is = absurd (cc)
+verdict_no_write Usage verdict is = absurd verdict
+verdict_no_write Input verdict is = absurd verdict
+verdict_no_write ReadFault verdict is = absurd verdict
+verdict_no_write WriteFault verdict is = absurd verdict
+verdict_no_write OutOfMemory verdict is = absurd verdict
 
 -- the status of a reply tells no write fault
 pub reply_kept : (status : Status) (faults faults_now : ℕ) → IsReplyStatus status → faults_now ≡ faults → RoseIf (is_write_fault status) faults faults_now

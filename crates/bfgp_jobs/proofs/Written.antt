@@ -1,5 +1,6 @@
 -- A reply that was written.
-use Rattle.std.proofs.Common.{◌≢◌, ℕ, List, Option, refl, sym, subst}
+use Rattle.std.proofs.Common.{◌≡◌, ◌≢◌, ℕ, List, Option, Result, Ok, refl, sym, subst}
+use Rattle.std.specs.Prelude.{IfOk}
 use Rattle.bfgp_jobs.specs.Reply.{Reply}
 use Rattle.bfgp_jobs.specs.declared.status.Status.{Status}
 use Rattle.bfgp_jobs.specs.declared.status.Status.TheVariants.{Done, No, Usage, Input, SpentExpansions, SpentRun, ReadFault, WriteFault, OutOfMemory}
@@ -24,3 +25,7 @@ written_due due reply SpentRun old new is final writes = replied due reply Spent
 written_due due reply ReadFault old new is final writes = absurd (never reply ReadFault old new (λ e. cc) final writes)
 written_due due reply WriteFault old new is final writes = record { reply = reply; due_reply = is; appended = (writes.part refl) }
 written_due due reply OutOfMemory old new is final writes = absurd (never reply OutOfMemory old new (λ e. cc) final writes)
+
+-- what holds of the words of a process that got them
+pub with_words : {W E : Type 0} (got : Result W E) (words : W) (P : W → Type 0) → got ≡ Ok words → P words → IfOk got P
+with_words {W} {E} got words P is here = subst (λ (r : Result W E). IfOk r P) (sym is) here

@@ -3,7 +3,7 @@ use Rattle.std.specs.Prelude.{◌≡◌, ◌≢◌, ℕ, List, [], ◌∷◌, �
 use Rattle.bfgp_outside.specs.Causes.{Rose}
 use Rattle.bfgp_outside.specs.Sink.{Keeps, Appends, AppendsPrefix}
 use Rattle.command_words.specs.declared.job.Job.{Job}
-use Rattle.command_words.specs.declared.job.Job.TheVariants.{Synth, Run}
+use Rattle.command_words.specs.declared.job.Job.TheVariants.{Synth, Check, Run}
 use Rattle.command_words.specs.Words.{JobOf, names_of, usage_text}
 use Rattle.input_reading.specs.Asked.{AsksInTurn}
 use Rattle.input_reading.specs.declared.fault.Fault.{Fault}
@@ -44,6 +44,14 @@ IsSilent ReadFault old new = Keeps old new
 IsSilent OutOfMemory old new = Keeps old new
 IsSilent _ old new = Unit {0}
 
+-- the status of an answer: whether a program was found, a document accepted, or all instances solved; or which budget or limit was spent
+abbrev pub IsAnswerStatus : Status → Type 0
+IsAnswerStatus Done = Unit {0}
+IsAnswerStatus No = Unit {0}
+IsAnswerStatus SpentExpansions = Unit {0}
+IsAnswerStatus SpentRun = Unit {0}
+IsAnswerStatus _ = ⊥
+
 -- what happens where the words are no job, whatever the shelf tells: usage is answered, but for a write fault or want of memory
 abbrev pub AnswersUsage : Status → Option (List ℕ) → Option (List ℕ) → Type 0
 AnswersUsage Usage old new = Appends old new usage_text
@@ -66,6 +74,7 @@ pub record InputCause (absences absences_now : ℕ) (old new : Option (List ℕ)
 -- the files that a job names, in the order in which they are read
 abbrev pub files_of : Job → List (List ℕ)
 files_of (Synth job) = names_of job.inputs
+files_of (Check job) = names_of job.inputs ++ job.answer ∷ []
 files_of (Run job) = names_of job.inputs ++ job.program ∷ []
 
 -- the files that the words' job names are asked for in turn, none of them again after a later one, and no other; and none at all

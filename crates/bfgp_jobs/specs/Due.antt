@@ -1,5 +1,7 @@
 -- What is due for the words of a command and the files: one status and one text.
-use Rattle.std.specs.Prelude.{◌≡◌, ℕ, Bool, if◌then◌else◌, List, Result, Ok, Err}
+use Rattle.std.specs.Prelude.{◌≡◌, ℕ, Bool, if◌then◌else◌, List, codes, Result, Ok, Err}
+use Rattle.flag_rules.specs.Line.{line}
+use Rattle.flag_rules.specs.declared.file.TheConstants.{MAX_FILE_BYTES}
 use Rattle.bfgp_outside.specs.Shelf.{Files}
 use Rattle.program_model.specs.Program.{Program}
 use Rattle.pointer_machine.specs.Machine.{MachineParts, meaning_of}
@@ -9,17 +11,22 @@ use Rattle.instance_report.specs.Report.{IsReport}
 use Rattle.refutation_tree.specs.declared.evidence.Answer.{Answer}
 use Rattle.refutation_tree.specs.declared.evidence.Outcome.{Outcome}
 use Rattle.refutation_tree.specs.declared.evidence.Outcome.TheVariants as outcomes
+use Rattle.refutation_tree.specs.Covers.{nobody}
+use Rattle.refutation_tree.specs.Accepted.{IsAccepted}
 use Rattle.answer_writer.specs.Document.{document}
+use Rattle.answer_reader.specs.Reading.{IsDocument}
 use Rattle.synthesis.specs.declared.bounds.TheConstants.{BUDGET, RUN_LIMIT}
 use Rattle.synthesis.specs.Search.{plain}
 use Rattle.synthesis.specs.Answers.{IsAnswer}
 use Rattle.command_words.specs.declared.job.Job.{Job}
-use Rattle.command_words.specs.declared.job.Job.TheVariants.{Synth, Run}
+use Rattle.command_words.specs.declared.job.Job.TheVariants.{Synth, Check, Run}
 use Rattle.command_words.specs.declared.job.SynthJob.{SynthJob}
+use Rattle.command_words.specs.declared.job.CheckJob.{CheckJob}
 use Rattle.command_words.specs.declared.job.RunJob.{RunJob}
 use Rattle.command_words.specs.Words.{JobOf, usage_text}
 use Rattle.input_reading.specs.Steps.{◌>>=◌}
 use Rattle.input_reading.specs.Inputs.{file_due, machine_due, program_due}
+use Rattle.bfgp_jobs.specs.declared.check.TheConstants.{MAX_DOCUMENT_BYTES}
 use Rattle.bfgp_jobs.specs.declared.status.Status.{Status}
 use Rattle.bfgp_jobs.specs.declared.status.Status.TheVariants.{Done, No, Usage, Input, SpentExpansions, SpentRun}
 use Rattle.bfgp_jobs.specs.Reply.{Reply}
@@ -42,6 +49,30 @@ synth_due files job = do
   machine ← machine_due files job.inputs job.pointers
   answer_due machine job.lines
 
+-- the bytes are the document of an answer that is accepted for a machine and a number of lines
+pub record IsAcceptedDocument (machine : MachineParts) (lines : ℕ) (bytes : List ℕ) : Type 0 where
+  pub answer : Answer
+  pub says : IsDocument (operation_texts machine.task machine.pointers) bytes answer
+  pub accepted : IsAccepted (meaning_of machine) nobody lines answer
+
+abbrev pub accepted_reply : Reply
+accepted_reply = record { status = Done; text = line (codes "accepted") }
+
+abbrev pub rejected_reply : Reply
+rejected_reply = record { status = No; text = line (codes "rejected") }
+
+-- the reply says whether the bytes are an accepted document; bytes that are no document are not
+pub data VerdictDue (machine : MachineParts) (lines : ℕ) (bytes : List ℕ) : Result Reply (List ℕ) → Type 0 where
+  accepted : IsAcceptedDocument machine lines bytes → VerdictDue machine lines bytes (Ok accepted_reply)
+  rejected : (IsAcceptedDocument machine lines bytes → ⊥) → VerdictDue machine lines bytes (Ok rejected_reply)
+
+-- `check`: the machine, then all of the answer file, and then the verdict on it
+abbrev pub check_due : Files → CheckJob → Result Reply (List ℕ) → Type 0
+check_due files job = do
+  machine ← machine_due files job.inputs job.pointers
+  bytes ← file_due files MAX_DOCUMENT_BYTES job.answer
+  VerdictDue machine job.lines bytes
+
 -- the status of a report
 abbrev pub report_status : Bool → Status
 report_status all_solved = if all_solved then Done else No
@@ -55,13 +86,14 @@ report_due machine limit program (Err line) = ⊥
 abbrev pub run_due : Files → RunJob → Result Reply (List ℕ) → Type 0
 run_due files job = do
   machine ← machine_due files job.inputs job.pointers
-  bytes ← file_due files job.program
+  bytes ← file_due files MAX_FILE_BYTES job.program
   program ← program_due machine job.program bytes
   report_due machine job.run program
 
 -- what is due for a job, by its command
 abbrev pub job_due : Files → Job → Result Reply (List ℕ) → Type 0
 job_due files (Synth job) = synth_due files job
+job_due files (Check job) = check_due files job
 job_due files (Run job) = run_due files job
 
 abbrev pub usage_reply : Reply

@@ -9,11 +9,13 @@ use Rattle.program_model.specs.Program.{Program, IsProgram}
 use Rattle.program_model.specs.Run.{Config, at}
 use Rattle.program_model.specs.Semantics.{Semantics}
 use Rattle.pointer_machine.specs.declared.pointing.Pointing.{Pointing}
+use Rattle.pointer_machine.specs.Machine.{MachineParts}
 use Rattle.pointer_machine.specs.Operations.{operations_of}
 use Rattle.pointer_machine.specs.Meaning.{meaning}
 use Rattle.pointer_machine.specs.Texts.{operation_texts}
 use Rattle.synthesis.specs.declared.bounds.TheConstants.{BUDGET, RUN_LIMIT}
 use Rattle.refutation_tree.specs.declared.evidence.Answer.{Answer}
+use Rattle.refutation_tree.specs.declared.evidence.Outcome.{Outcome}
 use Rattle.refutation_tree.specs.declared.evidence.Outcome.TheVariants as outcomes
 use Rattle.answer_reader.specs.Reading.{IsDocument}
 use Rattle.synthesis.specs.Search.{plain}
@@ -21,12 +23,18 @@ use Rattle.synthesis.specs.Answers.{IsAnswer}
 use Rattle.program_text.specs.Reading.{Reads}
 use Rattle.input_reading.specs.Posed.{Poses}
 use Rattle.command_words.specs.declared.job.Job.{Job}
-use Rattle.command_words.specs.declared.job.Job.TheVariants.{Synth, Run}
+use Rattle.command_words.specs.declared.job.Job.TheVariants.{Synth, Check, Run}
 use Rattle.command_words.specs.declared.job.SynthJob.{SynthJob}
+use Rattle.command_words.specs.declared.job.CheckJob.{CheckJob}
 use Rattle.command_words.specs.declared.job.RunJob.{RunJob}
 use Rattle.bfgp_jobs.specs.declared.status.Status.{Status}
 use Rattle.bfgp_jobs.specs.declared.status.Status.TheVariants.{Done, No}
 use Rattle.command_words.specs.Words.{JobOf}
+use Rattle.bfgp_jobs.specs.Due.{IsAcceptedDocument}
+
+-- what the machine over these instances and so many pointers is made of
+abbrev pub posed_parts : TaskParts → List InstanceParts → ℕ → MachineParts
+posed_parts task instances pointers = record { task = task; tables = map (ground_of task) instances; pointers = pointers }
 
 -- the machine over these instances and so many pointers
 abbrev pub posed_machine : TaskParts → List InstanceParts → ℕ → Semantics Pointing
@@ -53,6 +61,37 @@ pub record AreEndsInGoal (task : TaskParts) (instances : List InstanceParts) (po
 abbrev pub IsProgramOver : TaskParts → ℕ → Program → Type 0
 IsProgramOver task pointers program = IsProgram (length (operations_of task pointers)) program
 
+-- no program of fewer than so many lines solves every instance
+abbrev pub NoneShorter : TaskParts → List InstanceParts → (pointers size : ℕ) → Type 0
+NoneShorter task instances pointers size = (program : Program) → IsProgramOver task pointers program → length program < size → SolvesEach task instances pointers program → ⊥
+
+-- no program of at most so many lines solves every instance
+abbrev pub NoneSolvesEach : TaskParts → List InstanceParts → (pointers lines : ℕ) → Type 0
+NoneSolvesEach task instances pointers lines = (program : Program) → IsProgramOver task pointers program → length program ≤ lines → SolvesEach task instances pointers program → ⊥
+
+-- a program of at most so many lines that solves every instance, while none with fewer lines over the same pointers does
+pub record IsLeastSolution (task : TaskParts) (instances : List InstanceParts) (pointers lines : ℕ) (program : Program) : Type 0 where
+  pub is_program : IsProgramOver task pointers program
+  pub at_most : length program ≤ lines
+  pub solves : SolvesEach task instances pointers program
+  pub least : NoneShorter task instances pointers (length program)
+
+-- the answer gives such a program, and the steps after which its runs end
+pub record GivesLeast (task : TaskParts) (instances : List InstanceParts) (pointers lines : ℕ) (answer : Answer) : Type 0 where
+  pub program : Program
+  pub is_least : IsLeastSolution task instances pointers lines program
+  pub found : answer.outcome ≡ outcomes.Program (length program)
+  pub given : answer.program ≡ Some program
+  pub ends : AreEndsInGoal task instances pointers program answer.ends
+
+-- what an accepted answer shows, by its outcome: its program is a least solution; or there is none of at most as many lines as were
+-- asked for; or, where a budget was spent, none of fewer lines than the size at which it was
+abbrev pub Shows : TaskParts → List InstanceParts → (pointers lines : ℕ) → Answer → Outcome → Type 0
+Shows task instances pointers lines answer (outcomes.Program size) = GivesLeast task instances pointers lines answer
+Shows task instances pointers lines answer outcomes.Nothing = NoneSolvesEach task instances pointers lines
+Shows task instances pointers lines answer (outcomes.SpentExpansions size) = NoneShorter task instances pointers size
+Shows task instances pointers lines answer (outcomes.SpentRun size t) = NoneShorter task instances pointers size
+
 -- bytes were written that read back as this answer, and as no other, where these are the texts of the operations
 pub record SaysAnswer (texts : List (List ℕ)) (old new : Option (List ℕ)) (answer : Answer) : Type 0 where
   pub bytes : List ℕ
@@ -64,15 +103,8 @@ pub record SaysAnswer (texts : List (List ℕ)) (old new : Option (List ℕ)) (a
 -- every instance, after as many steps as it tells, and no program with fewer lines over the same pointers does
 pub record FindsLeast (job : SynthJob) (files : Files) (old new : Option (List ℕ)) : Type 0 where
   pub posed : Poses job.inputs files
-  pub program : Program
-  pub is_program : IsProgramOver posed.task job.pointers program
-  pub at_most : length program ≤ job.lines
-  pub solves : SolvesEach posed.task posed.instances job.pointers program
-  pub least : (other : Program) → IsProgramOver posed.task job.pointers other → length other < length program → SolvesEach posed.task posed.instances job.pointers other → ⊥
   pub answer : Answer
-  pub found : answer.outcome ≡ outcomes.Program (length program)
-  pub given : answer.program ≡ Some program
-  pub ends : AreEndsInGoal posed.task posed.instances job.pointers program answer.ends
+  pub gives : GivesLeast posed.task posed.instances job.pointers job.lines answer
   pub searched : IsAnswer (plain (posed_machine posed.task posed.instances job.pointers) RUN_LIMIT) BUDGET job.lines answer
   pub written : SaysAnswer (operation_texts posed.task job.pointers) old new answer
 
@@ -80,12 +112,30 @@ pub record FindsLeast (job : SynthJob) (files : Files) (old new : Option (List �
 -- asked for solves every instance
 pub record RefutesAll (job : SynthJob) (files : Files) (old new : Option (List ℕ)) : Type 0 where
   pub posed : Poses job.inputs files
-  pub none : (program : Program) → IsProgramOver posed.task job.pointers program → length program ≤ job.lines → SolvesEach posed.task posed.instances job.pointers program → ⊥
+  pub none : NoneSolvesEach posed.task posed.instances job.pointers job.lines
   pub answer : Answer
   pub nothing : answer.outcome ≡ outcomes.Nothing
   pub no_program : answer.program ≡ None
   pub searched : IsAnswer (plain (posed_machine posed.task posed.instances job.pointers) RUN_LIMIT) BUDGET job.lines answer
   pub written : SaysAnswer (operation_texts posed.task job.pointers) old new answer
+
+-- the files hold a task and instances of it, and the answer file holds some bytes
+pub record PosesCheck (job : CheckJob) (files : Files) : Type 0 where
+  pub posed : Poses job.inputs files
+  pub bytes : List ℕ
+  pub held : files job.answer ≡ Some bytes
+
+-- the answer file holds the document of one answer, which is accepted for as many lines as the words tell, and what it says is so
+pub record DocumentShows (job : CheckJob) (files : Files) : Type 0 where
+  pub poses : PosesCheck job files
+  pub is_accepted : IsAcceptedDocument (posed_parts poses.posed.task poses.posed.instances job.pointers) job.lines poses.bytes
+  pub only : (other : Answer) → IsDocument (operation_texts poses.posed.task job.pointers) poses.bytes other → other ≡ is_accepted.answer
+  pub shows : Shows poses.posed.task poses.posed.instances job.pointers job.lines is_accepted.answer is_accepted.answer.outcome
+
+-- the answer file holds no document that is accepted for as many lines as the words tell
+pub record DocumentFails (job : CheckJob) (files : Files) : Type 0 where
+  pub poses : PosesCheck job files
+  pub fails : IsAcceptedDocument (posed_parts poses.posed.task poses.posed.instances job.pointers) job.lines poses.bytes → ⊥
 
 -- the files hold a program, and the task and the instances that it is for
 pub record PosesProgram (job : RunJob) (files : Files) : Type 0 where
@@ -116,16 +166,18 @@ pub record ProgramFails (job : RunJob) (files : Files) : Type 0 where
   pub poses : PosesProgram job files
   pub fails : FailsOne poses.posed.task poses.posed.instances job.pointers poses.program job.run
 
--- status 0 of `synth` says that the written program solves and none with fewer lines does, and status 0 of `run` that the given
--- program solves within the limit
+-- status 0 of `synth` says that the written program solves and none with fewer lines does, status 0 of `check` that what the given
+-- document says is so, and status 0 of `run` that the given program solves within the limit
 abbrev pub Succeeds : Job → Files → Option (List ℕ) → Option (List ℕ) → Type 0
 Succeeds (Synth job) files old new = FindsLeast job files old new
+Succeeds (Check job) files old new = DocumentShows job files
 Succeeds (Run job) files old new = ProgramSolves job files
 
--- status 1 of `synth` says that no program of at most as many lines as were asked for solves, and status 1 of `run` that the given
--- program does not solve some instance within the limit
+-- status 1 of `synth` says that no program of at most as many lines as were asked for solves, status 1 of `check` that the given
+-- document is not accepted, and status 1 of `run` that the given program does not solve some instance within the limit
 abbrev pub Refutes : Job → Files → Option (List ℕ) → Option (List ℕ) → Type 0
 Refutes (Synth job) files old new = RefutesAll job files old new
+Refutes (Check job) files old new = DocumentFails job files
 Refutes (Run job) files old new = ProgramFails job files
 
 -- with status 0 and with status 1 the words are a job, and this is so of it

@@ -1,5 +1,6 @@
 ghost use Rattle.std.specs.Prelude.{◌≡◌, ℕ, List as Sequence};
 ghost use Rattle.bfgp_outside.specs.Shelf.{Files};
+ghost use Rattle.bfgp_jobs.specs.declared.check.TheConstants.{MAX_DOCUMENT_BYTES};
 ghost use Rattle.bfgp_jobs.specs.declared.process.TheConstants.{NO_WORDS};
 ghost use Rattle.bfgp_jobs.specs.Reply.{Reply};
 ghost use Rattle.bfgp_jobs.specs.Due.{Due};
@@ -10,7 +11,8 @@ pub fn at_most_one_reply_is_due()
         Due words files one → Due words files other → one ≡ other }
 {}
 
-/// The exit status of a process that does not get its words as text, as a number.
+/// A law: the limit on documents, and the exit status of a process that does not get its words as text, as numbers.
 pub fn limits()
-    ensures { NO_WORDS ≡ 9 }
+    ensures document_bytes { MAX_DOCUMENT_BYTES ≡ 67108864 }
+    ensures no_words { NO_WORDS ≡ 9 }
 {}

@@ -1,10 +1,11 @@
 //! The commands of the planner: the words of a command and the files that they name in, a status and what is written out.
 //!
-//! Of `specs/` read `Headline` first: what statuses 0 and 1 say, in the words of planning. Then `Due`: the one reply that is
-//! due for words and files; `Answers`: what each status says of what was written; and `Process`: the number to end with. `Inner`
-//! has what private functions owe each other.
+//! Of `specs/` read `Headline` first: what statuses 0 and 1 say, in the words of planning; and `Acceptance`: that `check` accepts
+//! what `synth` wrote. Then `Due`: the one reply that is due for words and files; `Answers`: what each status says of what was
+//! written; and `Process`: the number to end with. `Inner` has what private functions owe each other.
 #![tactic(auto)]
 
+mod check;
 mod laws;
 mod process;
 mod reply;
@@ -14,6 +15,7 @@ mod status;
 mod synth;
 mod top;
 
+pub use check::MAX_DOCUMENT_BYTES;
 pub use laws::{at_most_one_reply_is_due, limits};
 pub use process::{NO_WORDS, run_process};
 pub use status::Status;

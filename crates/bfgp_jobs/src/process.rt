@@ -5,6 +5,7 @@ ghost use Rattle.bfgp_outside.specs.Sink.{Keeps};
 ghost use Rattle.bfgp_jobs.specs.Due.{Due};
 ghost use Rattle.bfgp_jobs.specs.Answers.{Answers, UsageIsExact};
 ghost use Rattle.bfgp_jobs.specs.Headline.{Headline};
+ghost use Rattle.bfgp_jobs.specs.Acceptance.{CheckAccepts};
 ghost use Rattle.bfgp_jobs.specs.Process.{EndsWith, number_without_words};
 
 use crate::status::Status;
@@ -27,6 +28,8 @@ pub fn run_process<S: Shelf, K: Sink>(
 ) -> ExitCode
     ensures headline { IfOk words (λ words. EndsWith result (λ status. Knowing (S.files shelf.old) (λ files.
         Headline (map string_bytes words.items) files status (K.written out.old) (K.written out.new)))) }
+    ensures check_accepts { IfOk words (λ words. EndsWith result (λ status. Knowing (S.files shelf.old) (λ files.
+        CheckAccepts (map string_bytes words.items) files status (K.written out.old) (K.written out.new)))) }
     ensures due { IfOk words (λ words. EndsWith result (λ status. Knowing (S.files shelf.old) (λ files.
         Answers (Due (map string_bytes words.items) files) status (K.written out.old) (K.written out.new)))) }
     ensures usage { IfOk words (λ words. EndsWith result (λ status.

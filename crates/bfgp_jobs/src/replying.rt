@@ -6,9 +6,10 @@ ghost use Rattle.input_reading.specs.Asked.{AsksInTurn};
 ghost use Rattle.input_reading.specs.Causes.{TellsFault, HaltCause, is_read_fault};
 ghost use Rattle.input_reading.specs.Steps.{Gives};
 ghost use Rattle.bfgp_jobs.specs.Due.{Due, job_due, usage_reply};
-ghost use Rattle.bfgp_jobs.specs.Answers.{AsksForNamed, files_of};
-ghost use Rattle.bfgp_jobs.specs.Inner.Replying.{told, lacks_file, IsReplyStatus, IsVerdict, RepliesUsage};
+ghost use Rattle.bfgp_jobs.specs.Answers.{AsksForNamed, IsAnswerStatus, files_of};
+ghost use Rattle.bfgp_jobs.specs.Inner.Replying.{told, lacks_file, IsReplyStatus, RepliesUsage};
 
+use crate::check::check;
 use crate::reply::Reply;
 use crate::run::run;
 use crate::status::Status;
@@ -77,7 +78,7 @@ fn tell(outcome: Result<Reply, Halt>) -> Result<Reply, NoReply>
 fn job_outcome<S: Shelf>(alloc: Global, shelf: &mut S, job: &Job) -> Result<Reply, Halt>
     requires { IsJob job.now }
     ensures due { Knowing (S.files shelf.old) (λ files. Gives (job_due files job.now) result) }
-    ensures verdict { IfOk result (λ reply. IsVerdict reply.status) }
+    ensures verdict { IfOk result (λ reply. IsAnswerStatus reply.status) }
     ensures cause { IfErr result (HaltCause (S.absences shelf.old) (S.absences shelf.new)) }
     ensures reads { RoseIf (is_read_fault result) (S.faults shelf.old) (S.faults shelf.new) }
     ensures goes_on { GoesOn S.files S.faults S.absences shelf.old shelf.new }
@@ -85,6 +86,7 @@ fn job_outcome<S: Shelf>(alloc: Global, shelf: &mut S, job: &Job) -> Result<Repl
 {
     match job {
         Job::Synth(job) => synth(alloc, shelf, job),
+        Job::Check(job) => check(alloc, shelf, job),
         Job::Run(job) => run(alloc, shelf, job),
     }
 }

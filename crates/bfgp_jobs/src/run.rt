@@ -13,13 +13,13 @@ ghost use Rattle.input_reading.specs.Steps.{Gives};
 ghost use Rattle.input_reading.specs.Inputs.{program_due};
 ghost use Rattle.bfgp_jobs.specs.Due.{run_due, report_due, report_status};
 ghost use Rattle.input_reading.specs.Causes.{HaltCause, is_read_fault};
-ghost use Rattle.bfgp_jobs.specs.Inner.Replying.{IsVerdict};
+ghost use Rattle.bfgp_jobs.specs.Answers.{IsAnswerStatus};
 
 use crate::reply::Reply;
 use crate::status::Status;
 use bfgp_outside::Shelf;
 use command_words::RunJob;
-use flag_rules::OutOfMemory;
+use flag_rules::{MAX_FILE_BYTES, OutOfMemory};
 use input_reading::{Halt, machine_for, program_of, read_input};
 use instance_report::report;
 use pointer_machine::{Meter, PointerMachine};
@@ -30,7 +30,7 @@ use std::alloc::Global;
 pub(crate) fn run<S: Shelf>(alloc: Global, shelf: &mut S, job: &RunJob) -> Result<Reply, Halt>
     requires { IsRunJob job.now }
     ensures due { Knowing (S.files shelf.old) (λ files. Gives (run_due files job.now) result) }
-    ensures verdict { IfOk result (λ reply. IsVerdict reply.status) }
+    ensures verdict { IfOk result (λ reply. IsAnswerStatus reply.status) }
     ensures cause { IfErr result (HaltCause (S.absences shelf.old) (S.absences shelf.new)) }
     ensures reads { RoseIf (is_read_fault result) (S.faults shelf.old) (S.faults shelf.new) }
     ensures goes_on { GoesOn S.files S.faults S.absences shelf.old shelf.new }
@@ -39,7 +39,7 @@ pub(crate) fn run<S: Shelf>(alloc: Global, shelf: &mut S, job: &RunJob) -> Resul
 {
     let machine = machine_for(alloc, shelf, &job.inputs, job.pointers)?;
     let program_name = job.program.as_slice();
-    let bytes = read_input(alloc, shelf, program_name)?;
+    let bytes = read_input(alloc, shelf, program_name, MAX_FILE_BYTES as u64)?;
     let program = program_of(alloc, &machine, program_name, bytes.as_slice())?;
     Ok(outcome(alloc, &machine, job.run, &program)?)
 }
@@ -54,7 +54,7 @@ fn outcome(
     requires limit { limit ≤ MAX_RUN }
     requires program { IsProgram (meaning_of machine.now).ops program.now }
     ensures due { IfOk result (λ reply. report_due machine.now limit program.now (Ok reply)) }
-    ensures verdict { IfOk result (λ reply. IsVerdict reply.status) }
+    ensures verdict { IfOk result (λ reply. IsAnswerStatus reply.status) }
 {
     let report = report(alloc, machine, program, limit, &mut Meter::zero())?;
     Ok(Reply::of_text(status_of(report.all_solved), report.text))

@@ -7,9 +7,10 @@ use std::process::ExitCode;
 /// How a run of the planner ended. The number of a status is the process's exit status.
 #[derive(Clone, Copy, Debug, PartialEq, Eq)]
 pub enum Status {
-    /// A program was found and written, or the given one solves all instances.
+    /// A program was found and written, the given document is accepted, or the given program solves all instances.
     Done = 0,
-    /// No program of the asked size solves, or the given one does not solve all instances.
+    /// No program of at most as many lines as were asked for solves, the given document is not accepted, or the given program
+    /// does not solve all instances.
     No = 1,
     /// The words are no job; the usage text was written.
     Usage = 2,

@@ -5,13 +5,13 @@ ghost use Rattle.program_model.specs.declared.machine.TheConstants.{MAX_INSTANCE
 ghost use Rattle.program_text.specs.Names.{AreNames};
 ghost use Rattle.pointer_machine.specs.Texts.{operation_texts};
 ghost use Rattle.refutation_tree.specs.Grammar.{IsFromOneTo};
-ghost use Rattle.command_words.specs.declared.job.TheConstants.{MAX_LINES_ASKED};
+ghost use Rattle.command_words.specs.declared.job.TheConstants.{MAX_SYNTH_LINES};
 ghost use Rattle.command_words.specs.Words.{IsSynthJob, names_of};
 ghost use Rattle.input_reading.specs.Asked.{AsksInTurn};
 ghost use Rattle.input_reading.specs.Steps.{Gives};
 ghost use Rattle.bfgp_jobs.specs.Due.{synth_due, answer_due, status_of};
 ghost use Rattle.input_reading.specs.Causes.{HaltCause, is_read_fault};
-ghost use Rattle.bfgp_jobs.specs.Inner.Replying.{IsVerdict};
+ghost use Rattle.bfgp_jobs.specs.Answers.{IsAnswerStatus};
 
 use crate::reply::Reply;
 use crate::status::Status;
@@ -29,7 +29,7 @@ use synthesis::search;
 pub(crate) fn synth<S: Shelf>(alloc: Global, shelf: &mut S, job: &SynthJob) -> Result<Reply, Halt>
     requires { IsSynthJob job.now }
     ensures due { Knowing (S.files shelf.old) (λ files. Gives (synth_due files job.now) result) }
-    ensures verdict { IfOk result (λ reply. IsVerdict reply.status) }
+    ensures verdict { IfOk result (λ reply. IsAnswerStatus reply.status) }
     ensures cause { IfErr result (HaltCause (S.absences shelf.old) (S.absences shelf.new)) }
     ensures reads { RoseIf (is_read_fault result) (S.faults shelf.old) (S.faults shelf.new) }
     ensures goes_on { GoesOn S.files S.faults S.absences shelf.old shelf.new }
@@ -45,9 +45,9 @@ fn answer(alloc: Global, machine: &PointerMachine, lines: u8) -> Result<Reply, O
     requires pointers { IsFromOneTo MAX_POINTERS machine.now.pointers }
     requires instances { IsFromOneTo MAX_INSTANCES (length machine.now.tables) }
     requires some { 0 < lines }
-    requires few { lines ≤ MAX_LINES_ASKED }
+    requires few { lines ≤ MAX_SYNTH_LINES }
     ensures due { IfOk result (λ reply. answer_due machine.now lines (Ok reply)) }
-    ensures verdict { IfOk result (λ reply. IsVerdict reply.status) }
+    ensures verdict { IfOk result (λ reply. IsAnswerStatus reply.status) }
 {
     let answer = search(alloc, machine, lines, &mut Meter::zero())?;
     let texts = machine.op_texts(alloc)?;

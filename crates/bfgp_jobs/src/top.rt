@@ -4,6 +4,7 @@ ghost use Rattle.bfgp_outside.specs.Shelf.{Knowing, GoesOn};
 ghost use Rattle.bfgp_jobs.specs.Due.{Due};
 ghost use Rattle.bfgp_jobs.specs.Answers.{Answers, AsksForNamed, IsSilent, UsageIsExact, InputCause};
 ghost use Rattle.bfgp_jobs.specs.Headline.{Headline};
+ghost use Rattle.bfgp_jobs.specs.Acceptance.{CheckAccepts};
 ghost use Rattle.bfgp_jobs.specs.Inner.Replying.{is_write_fault, IsReplyStatus, Writes};
 
 use crate::reply::Reply;
@@ -22,10 +23,15 @@ pub fn bfgp<S: Shelf, K: Sink>(
 ) -> Status
     // `synth`: with status 0 the bytes that were written say one answer, whose program solves every instance that the words
     // pose, and none with fewer lines does; with status 1 they say that there is none, and no program of at most as many lines
-    // as were asked for does. `run`: with status 0 the given program solves every instance within the limit of steps, and
-    // with status 1 it does not solve some instance within it.
+    // as were asked for does. `check`: with status 0 the given document is accepted, and what it says of its program, or that
+    // there is none, is so; with status 1 it is not accepted. `run`: with status 0 the given program solves every instance
+    // within the limit of steps, and with status 1 it does not solve some instance within it.
     ensures headline { Knowing (S.files shelf.old) (λ files.
         Headline (map string_bytes words.now) files result (K.written out.old) (K.written out.new)) }
+
+    // `synth`: with status 0, 1, 4 or 5 `check` accepts what was written, where it is within its limit.
+    ensures check_accepts { Knowing (S.files shelf.old) (λ files.
+        CheckAccepts (map string_bytes words.now) files result (K.written out.old) (K.written out.new)) }
 
     // Status and appended bytes are due; with a write fault a front of those bytes.
     ensures due { Knowing (S.files shelf.old) (λ files.

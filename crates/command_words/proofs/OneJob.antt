@@ -1,19 +1,21 @@
 -- Words are those of one job at most.
-use Rattle.std.proofs.Common.{◌≡◌, ℕ, ◌^◌, ◌<◌, List, [], ◌∷◌, codes, decimal, sym, ◌∙◌, ap, subst, arith}
+use Rattle.std.proofs.Common.{◌≡◌, ℕ, ◌^◌, ◌<◌, List, [], ◌∷◌, get_or, codes, decimal, sym, ◌∙◌, ap, subst, arith}
 use Rattle.std.specs.Prelude.{IsTrue}
 use Rattle.std.proofs.lemmas.Bool.{false≢true}
 use Rattle.std.proofs.lemmas.Fmt.{decimal_injective}
 use Rattle.command_words.specs.declared.job.Inputs.{Inputs}
 use Rattle.command_words.specs.declared.job.Job.{Job}
-use Rattle.command_words.specs.declared.job.Job.TheVariants.{Synth, Run}
+use Rattle.command_words.specs.declared.job.Job.TheVariants.{Synth, Check, Run}
+use Rattle.command_words.specs.declared.job.CheckJob.{CheckJob}
 use Rattle.command_words.specs.declared.job.RunJob.{RunJob}
 use Rattle.command_words.specs.declared.job.SynthJob.{SynthJob}
-use Rattle.command_words.specs.Words.{is_file_name, names_of, IsJob, SynthJobOf, TellsLimit, told, untold, RunJobOf, JobOf}
+use Rattle.command_words.specs.Words.{is_file_name, names_of, IsJob, SynthJobOf, CheckJobOf, TellsLimit, told, untold, RunJobOf, JobOf}
 
 -- the job of words keeps its limits
 pub job_kept : (words : List (List ℕ)) (job : Job) → JobOf words job → IsJob job
 job_kept [] job is = absurd is
 job_kept (command ∷ words) (Synth job) is = is.1.is_job
+job_kept (command ∷ words) (Check job) is = is.1.is_job
 job_kept (command ∷ words) (Run job) is = is.1.is_job
 
 -- the same names are those of one domain and one list of instances
@@ -32,6 +34,20 @@ synth_job_same words one other p q =
     λ i. record {
       pointers = decimal_injective one.pointers other.pointers (omega (arith, p.is_job.few_pointers)) (omega (arith, q.is_job.few_pointers)) pointers i;
       lines = decimal_injective one.lines other.lines (omega (arith, p.is_job.few_lines)) (omega (arith, q.is_job.few_lines)) lines i;
+      inputs = inputs_same one.inputs other.inputs names i;
+    }
+
+check_job_same : (words : List (List ℕ)) (one other : CheckJob) → CheckJobOf words one → CheckJobOf words other → one ≡ other
+check_job_same words one other p q =
+    let both = sym p.spelled ∙ q.spelled in
+    let pointers : decimal one.pointers ≡ decimal other.pointers = cc in
+    let lines : decimal one.lines ≡ decimal other.lines = cc in
+    let document : one.answer ≡ other.answer = cc in
+    let names : names_of one.inputs ≡ names_of other.inputs = cc in
+    λ i. record {
+      pointers = decimal_injective one.pointers other.pointers (omega (arith, p.is_job.few_pointers)) (omega (arith, q.is_job.few_pointers)) pointers i;
+      lines = decimal_injective one.lines other.lines (omega (arith, p.is_job.few_lines)) (omega (arith, q.is_job.few_lines)) lines i;
+      answer = document i;
       inputs = inputs_same one.inputs other.inputs names i;
     }
 
@@ -69,12 +85,23 @@ run_job_same words one other p q =
     }
 
 -- the commands differ
-pub no_command : (command : List ℕ) → command ≡ codes "synth" → command ≡ codes "run" → ⊥
-no_command command synth run = let both : codes "synth" ≡ codes "run" = sym synth ∙ run in absurd (cc)
+pub no_synth_check : (command : List ℕ) → command ≡ codes "synth" → command ≡ codes "check" → ⊥
+no_synth_check command synth check = let first = ap (λ (word : List ℕ). get_or word 0 0) (sym synth ∙ check) in absurd (omega (arith, first))
+
+pub no_synth_run : (command : List ℕ) → command ≡ codes "synth" → command ≡ codes "run" → ⊥
+no_synth_run command synth run = let both : codes "synth" ≡ codes "run" = sym synth ∙ run in absurd (cc)
+
+pub no_check_run : (command : List ℕ) → command ≡ codes "check" → command ≡ codes "run" → ⊥
+no_check_run command check run = let both : codes "check" ≡ codes "run" = sym check ∙ run in absurd (cc)
 
 pub JobOf-unique : (words : List (List ℕ)) (one other : Job) → JobOf words one → JobOf words other → one ≡ other
 JobOf-unique [] one other p q = absurd p
 JobOf-unique (command ∷ words) (Synth one) (Synth other) p q = ap Synth (synth_job_same words one other p.1 q.1)
-JobOf-unique (command ∷ words) (Synth one) (Run other) p q = absurd (no_command command p.0 q.0)
-JobOf-unique (command ∷ words) (Run one) (Synth other) p q = absurd (no_command command q.0 p.0)
+JobOf-unique (command ∷ words) (Synth one) (Check other) p q = absurd (no_synth_check command p.0 q.0)
+JobOf-unique (command ∷ words) (Synth one) (Run other) p q = absurd (no_synth_run command p.0 q.0)
+JobOf-unique (command ∷ words) (Check one) (Synth other) p q = absurd (no_synth_check command q.0 p.0)
+JobOf-unique (command ∷ words) (Check one) (Check other) p q = ap Check (check_job_same words one other p.1 q.1)
+JobOf-unique (command ∷ words) (Check one) (Run other) p q = absurd (no_check_run command p.0 q.0)
+JobOf-unique (command ∷ words) (Run one) (Synth other) p q = absurd (no_synth_run command q.0 p.0)
+JobOf-unique (command ∷ words) (Run one) (Check other) p q = absurd (no_check_run command q.0 p.0)
 JobOf-unique (command ∷ words) (Run one) (Run other) p q = ap Run (run_job_same words one other p.1 q.1)

@@ -1,14 +1,14 @@
 -- Words that were not taken.
 use Rattle.std.proofs.Common.{◌≡◌, ℕ, List, ◌∷◌, codes, Err, subst}
 use Rattle.command_words.specs.declared.job.Job.{Job}
-use Rattle.command_words.specs.declared.job.Job.TheVariants.{Synth, Run}
+use Rattle.command_words.specs.declared.job.Job.TheVariants.{Synth, Check, Run}
 use Rattle.command_words.specs.declared.refusal.JobRefusal.{JobRefusal}
 use Rattle.command_words.specs.declared.refusal.JobRefusal.TheVariants.{Usage, OutOfMemory}
 use Rattle.command_words.specs.declared.reading.Limited.{Limited}
 use Rattle.command_words.specs.declared.job.RunJob.{RunJob}
 use Rattle.command_words.specs.Words.{IsReading, TellsLimit, RunJobOf, JobOf}
 use Rattle.command_words.specs.Inner.Parts.{AreLimited}
-use Rattle.command_words.proofs.OneJob.{no_command}
+use Rattle.command_words.proofs.OneJob.{no_synth_run, no_check_run}
 
 -- where a part of the words spells nothing, all of them spell nothing
 pub refused : {A B : Type 0} (Part : A → Type 0) (Spells : B → Type 0) (refusal : JobRefusal) → ((b : B) → Spells b → (a : A) × Part a) → IsReading Part (Err refusal) → IsReading Spells (Err refusal)
@@ -20,7 +20,8 @@ pub after_run : (words rest : List (List ℕ)) (command : List ℕ) → words �
 after_run words rest command words_are run job is = by_command job (subst (λ (w : List (List ℕ)). JobOf w job) words_are is)
   where
     by_command : (job : Job) → JobOf (command ∷ rest) job → (run : RunJob) × RunJobOf rest run
-    by_command (Synth job) is = absurd (no_command command is.0 run)
+    by_command (Synth job) is = absurd (no_synth_run command is.0 run)
+    by_command (Check job) is = absurd (no_check_run command is.0 run)
     by_command (Run job) is = (job, is.1)
 
 -- the words after the program of a run tell a limit and inputs

@@ -2,13 +2,15 @@
 use Rattle.std.specs.Prelude.{◌≡◌, ℕ, ◌<◌, ◌≤◌, Bool, false, not, ◌==◌, List, [], ◌∷◌, length, All, IsTrue, codes, decimal, Result}
 use Rattle.std.specs.Prelude.{Ok, Err}
 use Rattle.flag_rules.specs.Line.{lines_of}
+use Rattle.program_model.specs.declared.alphabet.TheConstants.{MAX_LINES}
 use Rattle.program_model.specs.declared.machine.TheConstants.{MAX_INSTANCES, MAX_POINTERS}
 use Rattle.interpreter.specs.declared.plain_run.TheConstants.{MAX_RUN}
-use Rattle.command_words.specs.declared.job.TheConstants.{LEAST_RUN, MAX_LINES_ASKED, USUAL_RUN}
+use Rattle.command_words.specs.declared.job.TheConstants.{LEAST_RUN, MAX_SYNTH_LINES, USUAL_RUN}
 use Rattle.command_words.specs.declared.job.Job.{Job}
-use Rattle.command_words.specs.declared.job.Job.TheVariants.{Synth, Run}
+use Rattle.command_words.specs.declared.job.Job.TheVariants.{Synth, Check, Run}
 use Rattle.command_words.specs.declared.job.Inputs.{Inputs}
 use Rattle.command_words.specs.declared.job.SynthJob.{SynthJob}
+use Rattle.command_words.specs.declared.job.CheckJob.{CheckJob}
 use Rattle.command_words.specs.declared.job.RunJob.{RunJob}
 use Rattle.command_words.specs.declared.refusal.JobRefusal.{JobRefusal}
 use Rattle.command_words.specs.declared.refusal.JobRefusal.TheVariants.{Usage, OutOfMemory}
@@ -38,7 +40,16 @@ pub record IsSynthJob (job : SynthJob) : Type 0 where
   pub some_pointers : 0 < job.pointers
   pub few_pointers : job.pointers ≤ MAX_POINTERS
   pub some_lines : 0 < job.lines
-  pub few_lines : job.lines ≤ MAX_LINES_ASKED
+  pub few_lines : job.lines ≤ MAX_SYNTH_LINES
+  pub inputs : AreInputs job.inputs
+
+-- the numbers of a check are within their limits
+pub record IsCheckJob (job : CheckJob) : Type 0 where
+  pub some_pointers : 0 < job.pointers
+  pub few_pointers : job.pointers ≤ MAX_POINTERS
+  pub some_lines : 0 < job.lines
+  pub few_lines : job.lines ≤ MAX_LINES
+  pub answer : IsTrue (is_file_name job.answer)
   pub inputs : AreInputs job.inputs
 
 -- the numbers of a run are within their limits
@@ -52,12 +63,18 @@ pub record IsRunJob (job : RunJob) : Type 0 where
 
 abbrev pub IsJob : Job → Type 0
 IsJob (Synth job) = IsSynthJob job
+IsJob (Check job) = IsCheckJob job
 IsJob (Run job) = IsRunJob job
 
 -- the words after `synth`: some pointers, lines and inputs, with the options in this order
 pub record SynthJobOf (words : List (List ℕ)) (job : SynthJob) : Type 0 where
   pub spelled : words ≡ codes "--pointers" ∷ decimal job.pointers ∷ codes "--lines" ∷ decimal job.lines ∷ names_of job.inputs
   pub is_job : IsSynthJob job
+
+-- the words after `check`: some pointers, lines, a document and inputs, with the options in this order
+pub record CheckJobOf (words : List (List ℕ)) (job : CheckJob) : Type 0 where
+  pub spelled : words ≡ codes "--pointers" ∷ decimal job.pointers ∷ codes "--lines" ∷ decimal job.lines ∷ codes "--answer" ∷ job.answer ∷ names_of job.inputs
+  pub is_job : IsCheckJob job
 
 -- a limit of steps and inputs: the limit is told by an option, or it is the one that is taken without
 pub data TellsLimit (words : List (List ℕ)) (run : ℕ) (inputs : Inputs) : Type 0 where
@@ -75,6 +92,7 @@ pub record RunJobOf (words : List (List ℕ)) (job : RunJob) : Type 0 where
 abbrev pub JobOf : List (List ℕ) → Job → Type 0
 JobOf [] job = ⊥
 JobOf (command ∷ words) (Synth job) = (command ≡ codes "synth") × SynthJobOf words job
+JobOf (command ∷ words) (Check job) = (command ≡ codes "check") × CheckJobOf words job
 JobOf (command ∷ words) (Run job) = (command ≡ codes "run") × RunJobOf words job
 
 -- what reading words may answer: what they spell, or that they spell nothing

@@ -1,7 +1,7 @@
 use flag_rules::{List, Text};
 
 /// The greatest number of lines that `synth` takes so far.
-pub const MAX_LINES_ASKED: u8 = 3;
+pub const MAX_SYNTH_LINES: u8 = 3;
 
 /// The least limit of steps that `run` takes.
 pub const LEAST_RUN: u64 = 4;
@@ -14,6 +14,8 @@ pub const USUAL_RUN: u64 = 100_000;
 pub enum Job {
     /// To search for a smallest program that solves all instances.
     Synth(SynthJob),
+    /// To check the answer document of a search.
+    Check(CheckJob),
     /// To run a program on all instances.
     Run(RunJob),
 }
@@ -23,8 +25,20 @@ pub enum Job {
 pub struct SynthJob {
     /// How many pointers programs have, from 1 to `MAX_POINTERS`.
     pub pointers: u8,
-    /// How many lines programs have at most, from 1 to `MAX_LINES_ASKED`.
+    /// How many lines programs have at most, from 1 to `MAX_SYNTH_LINES`.
     pub lines: u8,
+    pub inputs: Inputs,
+}
+
+/// A check of the answer document of a search for the same inputs, pointers and lines.
+#[derive(Debug, Drop)]
+pub struct CheckJob {
+    /// How many pointers programs have, from 1 to `MAX_POINTERS`.
+    pub pointers: u8,
+    /// How many lines programs were to have at most, from 1 to `MAX_LINES`.
+    pub lines: u8,
+    /// The name of the file that holds the document.
+    pub answer: Text,
     pub inputs: Inputs,
 }
 

@@ -1,11 +1,11 @@
 ghost use Rattle.std.specs.Prelude.{◌≡◌, ℕ, List as Sequence};
-ghost use Rattle.command_words.specs.declared.job.TheConstants.{LEAST_RUN, MAX_LINES_ASKED, USUAL_RUN};
+ghost use Rattle.command_words.specs.declared.job.TheConstants.{LEAST_RUN, MAX_SYNTH_LINES, USUAL_RUN};
 ghost use Rattle.command_words.specs.declared.job.Job.{Job};
 ghost use Rattle.command_words.specs.Words.{JobOf, IsJob};
 
 /// A law: the limits on the numbers of a job.
 pub fn limits()
-    ensures lines { MAX_LINES_ASKED ≡ 3 }
+    ensures lines { MAX_SYNTH_LINES ≡ 3 }
     ensures least_run { LEAST_RUN ≡ 4 }
     ensures usual_run { USUAL_RUN ≡ 100000 }
 {}

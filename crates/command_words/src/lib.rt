@@ -10,7 +10,7 @@ mod reading;
 mod refusal;
 mod usage;
 
-pub use job::{Inputs, Job, LEAST_RUN, MAX_LINES_ASKED, RunJob, SynthJob, USUAL_RUN};
+pub use job::{CheckJob, Inputs, Job, LEAST_RUN, MAX_SYNTH_LINES, RunJob, SynthJob, USUAL_RUN};
 pub use laws::{at_most_one_job, limits, the_job_of_words_keeps_its_limits};
 pub use reading::job_of;
 pub use refusal::JobRefusal;

@@ -1,4 +1,4 @@
-ghost use Rattle.std.specs.Prelude.{◌≡◌, ◌≢◌, ℕ, ◌≤◌, string_bytes, decimal, IfSome, IfNone};
+ghost use Rattle.std.specs.Prelude.{◌≡◌, ◌≢◌, ℕ, ◌<◌, ◌≤◌, string_bytes, decimal, IfSome, IfNone};
 
 use flag_rules::read_decimal;
 
@@ -11,4 +11,13 @@ pub(crate) fn number_of(word: &String, least: u64, most: u64) -> Option<u64>
         Some(number) if least <= number && number <= most => Some(number),
         _ => None,
     }
+}
+
+/// The count from 1 to `most` that a word is, in decimal and without leading zeros.
+pub(crate) fn count_of(word: &String, most: u8) -> Option<u8>
+    ensures some { IfSome result (λ count. (0 < count) × (count ≤ most) × (string_bytes word.now ≡ decimal count)) }
+    ensures none { IfNone result ((count : ℕ) → 0 < count → count ≤ most → string_bytes word.now ≢ decimal count) }
+{
+    let count = number_of(word, 1, u64::from(most))?;
+    Some(count as u8)
 }

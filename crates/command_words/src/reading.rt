@@ -1,14 +1,14 @@
 ghost use Rattle.std.specs.Prelude.{◌≡◌, ◌↔◌, ◌<◌, ◌≤◌, IsTrue, IfOk, All, length, map, string_bytes};
 ghost use Rattle.program_model.specs.declared.machine.TheConstants.{MAX_INSTANCES};
-ghost use Rattle.command_words.specs.Words.{IsReading, JobOf, SynthJobOf, RunJobOf, is_file_name};
+ghost use Rattle.command_words.specs.Words.{IsReading, JobOf, SynthJobOf, CheckJobOf, RunJobOf, is_file_name};
 ghost use Rattle.command_words.specs.Inner.Parts.{AreLimited, AreInputsOf};
 
-use crate::job::{Inputs, Job, LEAST_RUN, MAX_LINES_ASKED, RunJob, SynthJob, USUAL_RUN};
-use crate::number::number_of;
+use crate::job::{CheckJob, Inputs, Job, LEAST_RUN, MAX_SYNTH_LINES, RunJob, SynthJob, USUAL_RUN};
+use crate::number::{count_of, number_of};
 use crate::refusal::JobRefusal;
 use flag_rules::{List, OutOfMemory, Text};
 use interpreter::MAX_RUN;
-use program_model::{MAX_INSTANCES, MAX_POINTERS};
+use program_model::{MAX_INSTANCES, MAX_LINES, MAX_POINTERS};
 use std::alloc::Global;
 
 /// Reads the words of a command, without the program's own name.
@@ -20,6 +20,8 @@ pub fn job_of(alloc: Global, words: &[String]) -> Result<Job, JobRefusal>
     };
     if command.as_str() == "synth" {
         Ok(Job::Synth(synth_job_of(alloc, words)?))
+    } else if command.as_str() == "check" {
+        Ok(Job::Check(check_job_of(alloc, words)?))
     } else if command.as_str() == "run" {
         Ok(Job::Run(run_job_of(alloc, words)?))
     } else {
@@ -37,16 +39,56 @@ fn synth_job_of(alloc: Global, words: &[String]) -> Result<SynthJob, JobRefusal>
     if pointers_option.as_str() != "--pointers" || lines_option.as_str() != "--lines" {
         return Err(JobRefusal::Usage);
     }
-    let Some(pointers) = number_of(pointers, 1, u64::from(MAX_POINTERS)) else {
+    let Some(pointers) = count_of(pointers, MAX_POINTERS) else {
         return Err(JobRefusal::Usage);
     };
-    let Some(lines) = number_of(lines, 1, u64::from(MAX_LINES_ASKED)) else {
+    let Some(lines) = count_of(lines, MAX_SYNTH_LINES) else {
         return Err(JobRefusal::Usage);
     };
     let inputs = inputs_of(alloc, inputs)?;
     Ok(SynthJob {
-        pointers: pointers as u8,
-        lines: lines as u8,
+        pointers,
+        lines,
+        inputs,
+    })
+}
+
+// Reads the words after `check`.
+fn check_job_of(alloc: Global, words: &[String]) -> Result<CheckJob, JobRefusal>
+    ensures { IsReading (CheckJobOf (map string_bytes words.now)) result }
+{
+    let [
+        pointers_option,
+        pointers,
+        lines_option,
+        lines,
+        answer_option,
+        answer,
+        inputs @ ..,
+    ] = words
+    else {
+        return Err(JobRefusal::Usage);
+    };
+    if pointers_option.as_str() != "--pointers"
+        || lines_option.as_str() != "--lines"
+        || answer_option.as_str() != "--answer"
+    {
+        return Err(JobRefusal::Usage);
+    }
+    let Some(pointers) = count_of(pointers, MAX_POINTERS) else {
+        return Err(JobRefusal::Usage);
+    };
+    let Some(lines) = count_of(lines, MAX_LINES) else {
+        return Err(JobRefusal::Usage);
+    };
+    if !is_file_name(answer.as_bytes()) {
+        return Err(JobRefusal::Usage);
+    }
+    let inputs = inputs_of(alloc, inputs)?;
+    Ok(CheckJob {
+        pointers,
+        lines,
+        answer: Text::of(alloc, answer.as_bytes())?,
         inputs,
     })
 }
@@ -68,7 +110,7 @@ fn run_job_of(alloc: Global, words: &[String]) -> Result<RunJob, JobRefusal>
     if pointers_option.as_str() != "--pointers" || program_option.as_str() != "--program" {
         return Err(JobRefusal::Usage);
     }
-    let Some(pointers) = number_of(pointers, 1, u64::from(MAX_POINTERS)) else {
+    let Some(pointers) = count_of(pointers, MAX_POINTERS) else {
         return Err(JobRefusal::Usage);
     };
     if !is_file_name(program.as_bytes()) {
@@ -76,7 +118,7 @@ fn run_job_of(alloc: Global, words: &[String]) -> Result<RunJob, JobRefusal>
     }
     let limited = limited_of(alloc, others)?;
     Ok(RunJob {
-        pointers: pointers as u8,
+        pointers,
         run: limited.run,
         program: Text::of(alloc, program.as_bytes())?,
         inputs: limited.inputs,

@@ -46,6 +46,6 @@ asks_inputs before later now inputs name names same same_names here after =
     (later, subst (λ (n : List ℕ). Asks before later n) same here, subst (AsksInTurn later now) same_names after)
 
 -- and then a further file, by a slice of its name
-pub asks_program : (before later now : Option (List (List ℕ))) (names : List (List ℕ)) (program slice : List ℕ) → slice ≡ program → AsksInTurn before later names → Asks later now slice → AsksInTurn before now (names ++ program ∷ [])
-asks_program before later now names program slice same here next =
-    asks_both before later now names (program ∷ []) here (asks_one later now program (subst (λ (n : List ℕ). Asks later now n) same next))
+pub asks_further : (before later now : Option (List (List ℕ))) (names : List (List ℕ)) (file slice : List ℕ) → slice ≡ file → AsksInTurn before later names → Asks later now slice → AsksInTurn before now (names ++ file ∷ [])
+asks_further before later now names file slice same here next =
+    asks_both before later now names (file ∷ []) here (asks_one later now file (subst (λ (n : List ℕ). Asks later now n) same next))

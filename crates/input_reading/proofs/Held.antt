@@ -42,6 +42,14 @@ whole_short (Some file) limit bytes read = by_test (nat_lt limit (length file)) 
     by_test true is cut = absurd (cc)
     by_test false is all = let same : bytes ≡ file = cc in subst (λ (l : List ℕ). length l ≤ limit) (sym same) (grind (arith, nat_tests))
 
+-- a file that has no more bytes is read whole
+pub short_whole : (bytes : List ℕ) (limit : ℕ) → length bytes ≤ limit → Ok bytes ≡ whole_of (Some bytes) limit
+short_whole bytes limit few = by_test (nat_lt limit (length bytes)) refl
+  where
+    by_test : (long : Bool) → nat_lt limit (length bytes) ≡ long → Ok bytes ≡ (if long then Err TooLong else Ok bytes)
+    by_test true is = absurd (grind (arith, nat_tests))
+    by_test false is = refl
+
 -- a domain that was read, with its task
 record Numbered (bytes : List ℕ) (domain : Domain) : Type 0 where
   reads : HasDomain bytes domain.text

@@ -5,5 +5,6 @@ pub mod Tables
 pub mod OperationNames
 pub mod Machines
 pub mod Held
+pub mod OtherFiles
 pub mod Decided
 pub mod OneResult

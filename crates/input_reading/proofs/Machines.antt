@@ -2,6 +2,7 @@
 use Rattle.std.proofs.Common.{◌≡◌, ℕ, ◌<◌, ◌≤◌, List, length, Option, Result, Ok, Err, sym, ap, subst}
 use Rattle.std.specs.Prelude.{IfOk, IfErr}
 use Rattle.bfgp_outside.specs.Shelf.{Files, Knowing}
+use Rattle.flag_rules.specs.declared.file.TheConstants.{MAX_FILE_BYTES}
 use Rattle.ground_state.specs.declared.parts.TaskParts.{TaskParts}
 use Rattle.ground_state.specs.Task.{IsTask}
 use Rattle.ground_state.specs.Ground.{Ground}
@@ -28,17 +29,17 @@ module _ (told : Option Files) (inputs : Inputs) (pointers : ℕ) where
   Comes step r = Knowing told (λ (files : Files). Gives (step files) r)
 
   -- a file that is read by a slice of its name
-  file_at : (name : List ℕ) (r : Result (List ℕ) Halt) → name ≡ inputs.domain → Comes (λ files. file_due files name) r → Comes (λ files. file_due files inputs.domain) r
-  file_at name r same here = subst (λ (n : List ℕ). Comes (λ files. file_due files n) r) same here
+  file_at : (name : List ℕ) (r : Result (List ℕ) Halt) → name ≡ inputs.domain → Comes (λ files. file_due files MAX_FILE_BYTES name) r → Comes (λ files. file_due files MAX_FILE_BYTES inputs.domain) r
+  file_at name r same here = subst (λ (n : List ℕ). Comes (λ files. file_due files MAX_FILE_BYTES n) r) same here
 
   -- after the bytes of the domain file, which the shelf tells
-  pub from_bytes : (name bytes : List ℕ) (r : Result MachineParts Halt) → name ≡ inputs.domain → Comes (λ files. file_due files name) (Ok bytes) → Comes (λ files. after_domain_bytes files inputs pointers bytes) r → Comes (λ files. machine_due files inputs pointers) r
+  pub from_bytes : (name bytes : List ℕ) (r : Result MachineParts Halt) → name ≡ inputs.domain → Comes (λ files. file_due files MAX_FILE_BYTES name) (Ok bytes) → Comes (λ files. after_domain_bytes files inputs pointers bytes) r → Comes (λ files. machine_due files inputs pointers) r
   from_bytes name bytes r same read rest =
-      known_next told (λ files. file_due files inputs.domain) (λ files. after_domain_bytes files inputs pointers) bytes r (file_at name (Ok bytes) same read) rest
+      known_next told (λ files. file_due files MAX_FILE_BYTES inputs.domain) (λ files. after_domain_bytes files inputs pointers) bytes r (file_at name (Ok bytes) same read) rest
 
-  pub at_bytes : (name : List ℕ) (halt : Halt) → name ≡ inputs.domain → Comes (λ files. file_due files name) (Err halt) → Comes (λ files. machine_due files inputs pointers) (Err halt)
+  pub at_bytes : (name : List ℕ) (halt : Halt) → name ≡ inputs.domain → Comes (λ files. file_due files MAX_FILE_BYTES name) (Err halt) → Comes (λ files. machine_due files inputs pointers) (Err halt)
   at_bytes name halt same ended =
-      known_end told (λ files. file_due files inputs.domain) (λ files. after_domain_bytes files inputs pointers) halt (file_at name (Err halt) same ended)
+      known_end told (λ files. file_due files MAX_FILE_BYTES inputs.domain) (λ files. after_domain_bytes files inputs pointers) halt (file_at name (Err halt) same ended)
 
   -- the domain by slices of the name and of the bytes
   domain_at : (name bytes slice : List ℕ) (r : Result Domain Halt) → name ≡ inputs.domain → slice ≡ bytes → Gives (domain_due name slice) r → Comes (λ files. domain_due inputs.domain bytes) r

@@ -1,5 +1,6 @@
 -- Reading the input files comes to one result at most.
 use Rattle.std.proofs.Common.{◌≡◌, ℕ, ◌<◌, ◌≤◌, List, [], ◌∷◌, Option, Some, Result, Ok, Err, refl, sym, ◌∙◌, ap, subst, arith}
+use Rattle.flag_rules.specs.declared.file.TheConstants.{MAX_FILE_BYTES}
 use Rattle.bfgp_outside.specs.Shelf.{Files}
 use Rattle.pddl_parser.specs.declared.refusal.ParseRefusal.{ParseRefusal}
 use Rattle.pddl_parser.specs.declared.refusal.ParseRefusal.TheVariants as parse
@@ -45,8 +46,8 @@ use Rattle.input_reading.proofs.OperationNames.{operations-named}
 use Rattle.input_reading.proofs.Decided.{IsDecided, IsDefinite, pure_decided, then_decided, tell_decided}
 
 -- each call of a job is definite
-whole_definite : (files : Files) (name : List ℕ) → IsDefinite reading_fault (IsWhole files name)
-whole_definite files name = record {
+whole_definite : (files : Files) (limit : ℕ) (name : List ℕ) → IsDefinite reading_fault (IsWhole files limit name)
+whole_definite files limit name = record {
   value = λ a b p q. let same = p ∙ sym q in cc;
   fault = λ d e x y dx ey p q. let same = p ∙ sym q in let is : d ≡ e = cc in let there = ap reading_fault is in cc;
   apart = λ a e x is p q. let same = p ∙ sym q in absurd (cc);
@@ -118,8 +119,8 @@ count_definite task pointers = record { value = λ a b p q. refl; fault = fault_
     apart a e x is p q = let many = (counted e x is q).1 in omega (arith, p, many)
 
 -- each step of a job is decided
-pub file_decided : (files : Files) (name : List ℕ) → IsDecided (file_due files name)
-file_decided files name = tell_decided name (whole_definite files name)
+pub file_decided : (files : Files) (limit : ℕ) (name : List ℕ) → IsDecided (file_due files limit name)
+file_decided files limit name = tell_decided name (whole_definite files limit name)
 
 domain_decided : (name bytes : List ℕ) → IsDecided (domain_due name bytes)
 domain_decided name bytes =
@@ -137,7 +138,7 @@ module _ (files : Files) (domain : Domain) where
   tables_decided : (names : List (List ℕ)) → IsDecided (tables_due files domain names)
   tables_decided [] = pure_decided []
   tables_decided (name ∷ names) =
-      then_decided (file_decided files name) (λ bytes read.
+      then_decided (file_decided files MAX_FILE_BYTES name) (λ bytes read.
       then_decided (table_decided name bytes) (λ table made.
       then_decided (tables_decided names) (λ tables others.
       pure_decided (table ∷ tables))))
@@ -155,7 +156,7 @@ program_definite texts bytes named = record {
 
 pub machine_decided : (files : Files) (inputs : Inputs) (pointers : ℕ) → IsDecided (machine_due files inputs pointers)
 machine_decided files inputs pointers =
-    then_decided (file_decided files inputs.domain) (λ bytes read.
+    then_decided (file_decided files MAX_FILE_BYTES inputs.domain) (λ bytes read.
     then_decided (domain_decided inputs.domain bytes) (λ domain numbered.
     then_decided (tables_decided files domain inputs.instances) (λ tables made.
     then_decided (tell_decided inputs.domain (count_definite domain.task pointers)) (λ counted few.

@@ -3,6 +3,7 @@ use Rattle.std.proofs.Common.{◌≡◌, ℕ, ◌+◌, ◌<◌, ◌≤◌, List,
 use Rattle.std.specs.Prelude.{All}
 use Rattle.std.proofs.lemmas.List.{drop_more, drop_all, append-nil, append_assoc}
 use Rattle.bfgp_outside.specs.Shelf.{Files, Knowing}
+use Rattle.flag_rules.specs.declared.file.TheConstants.{MAX_FILE_BYTES}
 use Rattle.ground_state.specs.Ground.{Ground}
 use Rattle.input_reading.specs.declared.domain_reading.Domain.{Domain}
 use Rattle.input_reading.specs.declared.halt.Halt.{Halt}
@@ -36,19 +37,19 @@ module _ (files : Files) (domain : Domain) (names : List (List ℕ)) (i : ℕ) (
   told line ended = so_far.goes (Err line) (ends (subst (λ (n : List (List ℕ)). tables_due files domain n (Err line)) (sym cut) ended))
 
   -- its file ends the job
-  pub ends_at_file : (halt : Halt) → Gives (file_due files name) (Err halt) → Gives (tables_due files domain names) (Err halt)
+  pub ends_at_file : (halt : Halt) → Gives (file_due files MAX_FILE_BYTES name) (Err halt) → Gives (tables_due files domain names) (Err halt)
   ends_at_file (Refused line) ended = told line (ends ended)
   ends_at_file ReadFault ended = tt
   ends_at_file OutOfMemory ended = tt
 
   -- its text ends the job
-  pub ends_at_table : (bytes : List ℕ) (halt : Halt) → file_due files name (Ok bytes) → Gives (table_due name domain bytes) (Err halt) → Gives (tables_due files domain names) (Err halt)
+  pub ends_at_table : (bytes : List ℕ) (halt : Halt) → file_due files MAX_FILE_BYTES name (Ok bytes) → Gives (table_due name domain bytes) (Err halt) → Gives (tables_due files domain names) (Err halt)
   ends_at_table bytes (Refused line) read ended = told line (goes_on read (ends ended))
   ends_at_table bytes ReadFault read ended = tt
   ends_at_table bytes OutOfMemory read ended = tt
 
   -- one more table
-  pub continues : (bytes : List ℕ) (table : Ground) → file_due files name (Ok bytes) → table_due name domain bytes (Ok table) → Continues files domain names (i + 1) (front ++ table ∷ [])
+  pub continues : (bytes : List ℕ) (table : Ground) → file_due files MAX_FILE_BYTES name (Ok bytes) → table_due name domain bytes (Ok table) → Continues files domain names (i + 1) (front ++ table ∷ [])
   continues bytes table read made = record { goes = goes }
     where
       goes : (r : Result (List Ground) (List ℕ)) → (tables_due files domain (drop (i + 1) names) >>= after_others (front ++ table ∷ [])) r → tables_due files domain names r
@@ -71,16 +72,16 @@ at_bytes name name_slice bytes slice domain r same_name same here =
 -- the same, where the shelf tells its files
 module _ (told later : Option Files) (kept : later ≡ told) (domain : Domain) (names : List (List ℕ)) (i : ℕ) (front : List Ground) (name slice : List ℕ) (same : slice ≡ name) (so_far : Knowing told (λ (files : Files). Continues files domain names i front)) (within : i < length names) (here : name ≡ get_or names i name) where
   abbrev Reads : Result (List ℕ) Halt → Type 0
-  Reads r = Knowing later (λ (files : Files). Gives (file_due files slice) r)
+  Reads r = Knowing later (λ (files : Files). Gives (file_due files MAX_FILE_BYTES slice) r)
 
   pub known_file : (halt : Halt) → Reads (Err halt) → Knowing told (λ (files : Files). Gives (tables_due files domain names) (Err halt))
   known_file halt ended =
-      knowing_both told (λ (files : Files). Continues files domain names i front) (λ (files : Files). Gives (file_due files slice) (Err halt)) (λ (files : Files). Gives (tables_due files domain names) (Err halt)) (λ files goes_on ends. ends_at_file files domain names i front name goes_on within here halt (subst (λ (n : List ℕ). Gives (file_due files n) (Err halt)) same ends)) so_far (knowing_same (λ (files : Files). Gives (file_due files slice) (Err halt)) kept ended)
+      knowing_both told (λ (files : Files). Continues files domain names i front) (λ (files : Files). Gives (file_due files MAX_FILE_BYTES slice) (Err halt)) (λ (files : Files). Gives (tables_due files domain names) (Err halt)) (λ files goes_on ends. ends_at_file files domain names i front name goes_on within here halt (subst (λ (n : List ℕ). Gives (file_due files MAX_FILE_BYTES n) (Err halt)) same ends)) so_far (knowing_same (λ (files : Files). Gives (file_due files MAX_FILE_BYTES slice) (Err halt)) kept ended)
 
   pub known_table : (bytes : List ℕ) (halt : Halt) → Reads (Ok bytes) → Gives (table_due name domain bytes) (Err halt) → Knowing told (λ (files : Files). Gives (tables_due files domain names) (Err halt))
   known_table bytes halt read ended =
-      knowing_both told (λ (files : Files). Continues files domain names i front) (λ (files : Files). Gives (file_due files slice) (Ok bytes)) (λ (files : Files). Gives (tables_due files domain names) (Err halt)) (λ files goes_on was. ends_at_table files domain names i front name goes_on within here bytes halt (subst (λ (n : List ℕ). Gives (file_due files n) (Ok bytes)) same was) ended) so_far (knowing_same (λ (files : Files). Gives (file_due files slice) (Ok bytes)) kept read)
+      knowing_both told (λ (files : Files). Continues files domain names i front) (λ (files : Files). Gives (file_due files MAX_FILE_BYTES slice) (Ok bytes)) (λ (files : Files). Gives (tables_due files domain names) (Err halt)) (λ files goes_on was. ends_at_table files domain names i front name goes_on within here bytes halt (subst (λ (n : List ℕ). Gives (file_due files MAX_FILE_BYTES n) (Ok bytes)) same was) ended) so_far (knowing_same (λ (files : Files). Gives (file_due files MAX_FILE_BYTES slice) (Ok bytes)) kept read)
 
   pub known_more : (bytes : List ℕ) (table : Ground) → Reads (Ok bytes) → Gives (table_due name domain bytes) (Ok table) → Knowing told (λ (files : Files). Continues files domain names (i + 1) (front ++ table ∷ []))
   known_more bytes table read made =
-      knowing_both told (λ (files : Files). Continues files domain names i front) (λ (files : Files). Gives (file_due files slice) (Ok bytes)) (λ (files : Files). Continues files domain names (i + 1) (front ++ table ∷ [])) (λ files goes_on was. continues files domain names i front name goes_on within here bytes table (subst (λ (n : List ℕ). Gives (file_due files n) (Ok bytes)) same was) made) so_far (knowing_same (λ (files : Files). Gives (file_due files slice) (Ok bytes)) kept read)
+      knowing_both told (λ (files : Files). Continues files domain names i front) (λ (files : Files). Gives (file_due files MAX_FILE_BYTES slice) (Ok bytes)) (λ (files : Files). Continues files domain names (i + 1) (front ++ table ∷ [])) (λ files goes_on was. continues files domain names i front name goes_on within here bytes table (subst (λ (n : List ℕ). Gives (file_due files MAX_FILE_BYTES n) (Ok bytes)) same was) made) so_far (knowing_same (λ (files : Files). Gives (file_due files MAX_FILE_BYTES slice) (Ok bytes)) kept read)

@@ -17,13 +17,13 @@ use Rattle.input_reading.specs.Faults.{reading_fault, parsing_fault, task_fault,
 use Rattle.input_reading.specs.Steps.{◌>>=◌, pure, or_tell}
 use Rattle.input_reading.specs.Grounding.{IsGroundReply, IsCountReply}
 
--- the bytes of a file that is held and not too long, or why they are not taken
-abbrev pub IsWhole : Files → List ℕ → Result (List ℕ) ReadRefusal → Type 0
-IsWhole files name result = result ≡ whole_of (files name) MAX_FILE_BYTES
+-- the bytes of a file that is held and has at most so many, or why they are not taken
+abbrev pub IsWhole : Files → ℕ → List ℕ → Result (List ℕ) ReadRefusal → Type 0
+IsWhole files limit name result = result ≡ whole_of (files name) limit
 
--- the bytes of an input file, or the fault that it is absent or too long
-abbrev pub file_due : Files → List ℕ → Result (List ℕ) (List ℕ) → Type 0
-file_due files name = or_tell name reading_fault (IsWhole files name)
+-- the bytes of a file of at most so many, or the fault that it is absent or too long
+abbrev pub file_due : Files → ℕ → List ℕ → Result (List ℕ) (List ℕ) → Type 0
+file_due files limit name = or_tell name reading_fault (IsWhole files limit name)
 
 -- the bytes of a domain file are read, and its names numbered
 abbrev pub domain_due : List ℕ → List ℕ → Result Domain (List ℕ) → Type 0
@@ -43,7 +43,7 @@ table_due name domain bytes = do
 abbrev pub tables_due : Files → Domain → List (List ℕ) → Result (List Ground) (List ℕ) → Type 0
 tables_due files domain [] = pure []
 tables_due files domain (name ∷ names) = do
-  bytes ← file_due files name
+  bytes ← file_due files MAX_FILE_BYTES name
   table ← table_due name domain bytes
   tables ← tables_due files domain names
   pure (table ∷ tables)
@@ -52,7 +52,7 @@ tables_due files domain (name ∷ names) = do
 -- operations are counted
 abbrev pub machine_due : Files → Inputs → ℕ → Result MachineParts (List ℕ) → Type 0
 machine_due files inputs pointers = do
-  bytes ← file_due files inputs.domain
+  bytes ← file_due files MAX_FILE_BYTES inputs.domain
   domain ← domain_due inputs.domain bytes
   tables ← tables_due files domain inputs.instances
   counted ← or_tell inputs.domain machine_fault (IsCountReply domain.task pointers)

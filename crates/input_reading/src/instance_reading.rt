@@ -21,7 +21,7 @@ use crate::file_reading::read_input;
 use crate::halt::Halt;
 use crate::telling::refuse;
 use bfgp_outside::Shelf;
-use flag_rules::{List, Text};
+use flag_rules::{List, MAX_FILE_BYTES, Text};
 use ground_state::{AtomTable, Instance};
 use pddl_parser::ProblemText;
 use pddl_task::instance;
@@ -46,7 +46,7 @@ pub(crate) fn tables_of<S: Shelf>(
 {
     let mut tables = List::new(alloc);
     for name in names {
-        let bytes = read_input(alloc, shelf, name.as_slice())?;
+        let bytes = read_input(alloc, shelf, name.as_slice(), MAX_FILE_BYTES as u64)?;
         tables.push(table_of(alloc, name.as_slice(), domain, bytes.as_slice())?)?;
     }
     Ok(tables)

@@ -1,4 +1,5 @@
-//! Reads the input files of a job: the machine over a domain and instances, a program, and the line that tells a fault.
+//! Reads the files of a job: the machine over a domain and instances, a program, any further file, and the line that tells a
+//! fault.
 //!
 //! Of `specs/` read `Inputs` first: what is due of the files, step by step; then `Posed`: the task and the instances that they
 //! hold; and `Faults`: the lines that tell a fault. `Inner` has what private functions owe each other.

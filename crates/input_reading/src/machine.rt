@@ -24,7 +24,7 @@ use crate::instance_reading::tables_of;
 use crate::telling::refuse;
 use bfgp_outside::Shelf;
 use command_words::Inputs;
-use flag_rules::List;
+use flag_rules::{List, MAX_FILE_BYTES};
 use ground_state::{AtomTable, Task};
 use pointer_machine::PointerMachine;
 use std::alloc::Global;
@@ -50,7 +50,7 @@ pub fn machine_for<S: Shelf>(
     ensures asks { AsksInTurn (S.asked shelf.old) (S.asked shelf.new) (names_of inputs.now) }
 {
     let domain_name = inputs.domain.as_slice();
-    let bytes = read_input(alloc, shelf, domain_name)?;
+    let bytes = read_input(alloc, shelf, domain_name, MAX_FILE_BYTES as u64)?;
     let domain = domain_of(alloc, domain_name, bytes.as_slice())?;
     let tables = tables_of(alloc, shelf, &domain, inputs.instances.as_slice())?;
     machine_over(alloc, domain_name, domain.task, tables, pointers)

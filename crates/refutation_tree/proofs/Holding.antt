@@ -1,4 +1,5 @@
--- What an accepted answer says holds: its program is least, and where it says that there is none, there is none.
+-- What an accepted answer says holds: its program is least; where it says that there is none, there is none; and where a budget was
+-- spent, there is none of fewer lines.
 use Rattle.std.proofs.Common.{◌≡◌, ℕ, zero, suc, ◌+◌, ◌<◌, ◌≤◌, List, [], ◌∷◌, map, length, Option, sym, ◌∙◌, subst, inl, inr, arith}
 use Rattle.std.specs.Prelude.{All, IfSome}
 use Rattle.std.specs.List.{range_with_len}
@@ -10,11 +11,11 @@ use Rattle.program_model.specs.Run.{Solves, SolvesAll}
 use Rattle.program_model.proofs.Programs.{partial_empty, completes_empty}
 use Rattle.refutation_tree.specs.declared.evidence.Tree.{Tree}
 use Rattle.refutation_tree.specs.declared.evidence.Outcome.{Outcome}
-use Rattle.refutation_tree.specs.declared.evidence.Outcome.TheVariants.{Program as Found, Nothing}
+use Rattle.refutation_tree.specs.declared.evidence.Outcome.TheVariants.{Program as Found, Nothing, SpentExpansions, SpentRun}
 use Rattle.refutation_tree.specs.declared.evidence.Answer.{Answer}
 use Rattle.refutation_tree.specs.Covers.{Skips, IsFair}
 use Rattle.refutation_tree.specs.Grammar.{HasProgram, FitsOutcome, IsFromOneTo, last_size}
-use Rattle.refutation_tree.specs.Accepted.{AreEndsFrom, SaysRefuted, CoversRefuted, IsAccepted, NoneSolves, ShowsLeast}
+use Rattle.refutation_tree.specs.Accepted.{AreEndsFrom, SaysRefuted, CoversRefuted, IsAccepted, NoneSolves, NoneShorter, IsSpentAt, ShowsLeast}
 use Rattle.refutation_tree.proofs.Covering.{covered_refuted}
 
 -- a program whose runs end so, on the instances from one on, solves these
@@ -79,3 +80,17 @@ module _ {C : Type 0} (m : Semantics C) (skips : Skips) (fair : IsFair m skips) 
       let asked = h.asked in
       let sizes : sizes_of a.trees ≡ range_with_len 1 a.lines = subst (λ (o : Outcome). sizes_of a.trees ≡ range_with_len 1 (last_size a.lines o)) is h.grammatical.sizes in
       sizes_refuted a.outcome a.trees 1 a.lines p sizes h.covered program (omega arith) (omega arith) (subst (λ (o : Outcome). SaysRefuted o (length p)) (sym is) tt) solves
+
+  shorter : (outcome : Outcome) (trees : List Tree) (size : ℕ) → sizes_of trees ≡ range_with_len 1 size → All (CoversRefuted m skips outcome) trees → ((n : ℕ) → n < size → SaysRefuted outcome n) → NoneShorter m size
+  shorter outcome trees size sizes covered refuted p program fewer solves =
+      let some = program.is_partial.some in
+      sizes_refuted outcome trees 1 size p sizes covered program (omega arith) (omega arith) (refuted (length p) fewer) solves
+
+  pub accepted_spent : (lines size : ℕ) (a : Answer) → IsAccepted m skips lines a → IsSpentAt size a.outcome → NoneShorter m size
+  accepted_spent lines size a h spent = by_outcome a.outcome h.grammatical.sizes h.covered spent
+    where
+      by_outcome : (o : Outcome) → sizes_of a.trees ≡ range_with_len 1 (last_size a.lines o) → All (CoversRefuted m skips o) a.trees → IsSpentAt size o → NoneShorter m size
+      by_outcome (Found n) sizes covered is = absurd is
+      by_outcome Nothing sizes covered is = absurd is
+      by_outcome (SpentExpansions n) sizes covered is = subst (NoneShorter m) is (shorter (SpentExpansions n) a.trees n sizes covered (λ k fewer. fewer))
+      by_outcome (SpentRun n t) sizes covered is = subst (NoneShorter m) is (shorter (SpentRun n t) a.trees n sizes covered (λ k fewer. fewer))

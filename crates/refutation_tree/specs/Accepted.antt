@@ -40,6 +40,16 @@ pub record IsAccepted {C : Type 0} (m : Semantics C) (skips : Skips) (lines : �
 abbrev pub NoneSolves : {C : Type 0} → Semantics C → ℕ → Type 0
 NoneSolves m lines = (p : Program) → IsProgram m.ops p → length p ≤ lines → SolvesAll m p → ⊥
 
+-- no program of fewer than so many lines solves every instance
+abbrev pub NoneShorter : {C : Type 0} → Semantics C → ℕ → Type 0
+NoneShorter m size = (p : Program) → IsProgram m.ops p → length p < size → SolvesAll m p → ⊥
+
+-- the outcome says that the budget or the limit of a run was spent at this size
+abbrev pub IsSpentAt : ℕ → Outcome → Type 0
+IsSpentAt size (SpentExpansions at) = at ≡ size
+IsSpentAt size (SpentRun at t) = at ≡ size
+IsSpentAt size _ = ⊥
+
 -- the answer's program has so many lines, within a number, it solves every instance while none of fewer lines does, and its
 -- runs end after the steps that are told
 pub record ShowsLeast {C : Type 0} (m : Semantics C) (size lines : ℕ) (a : Answer) : Type 0 where

@@ -5,7 +5,7 @@ ghost use Rattle.program_model.specs.Run.{SolvesAll};
 ghost use Rattle.refutation_tree.specs.declared.evidence.Mark.{Mark};
 ghost use Rattle.refutation_tree.specs.declared.evidence.Outcome.TheVariants as outcomes;
 ghost use Rattle.refutation_tree.specs.declared.evidence.Answer.{Answer};
-ghost use Rattle.refutation_tree.specs.Accepted.{IsAccepted, ShowsLeast, NoneSolves};
+ghost use Rattle.refutation_tree.specs.Accepted.{IsAccepted, IsSpentAt, ShowsLeast, NoneShorter, NoneSolves};
 ghost use Rattle.refutation_tree.specs.Covers.{Skips, nobody, IsCovered, IsFair};
 
 use crate::{MAX_SPLITS, MAX_STEPS};
@@ -30,7 +30,8 @@ pub fn passing_nobody_over_is_fair<C>()
 {}
 
 /// A law over all machines: what an accepted answer says holds, where passing over loses no solution. Its program is least;
-/// and where it says that there is none, no program of at most so many lines solves every instance.
+/// where it says that there is none, no program of at most so many lines solves every instance; and where it says that the
+/// budget or the limit of a run was spent at a size, none of fewer lines does.
 pub fn accepted_answers_hold<C>()
     ensures program { (m : Semantics C) (skips : Skips) (lines size : ℕ) (answer : Answer) →
         IsFair m skips → IsAccepted m skips lines answer → answer.outcome ≡ outcomes.Program size →
@@ -38,4 +39,7 @@ pub fn accepted_answers_hold<C>()
     ensures nothing { (m : Semantics C) (skips : Skips) (lines : ℕ) (answer : Answer) →
         IsFair m skips → IsAccepted m skips lines answer → answer.outcome ≡ outcomes.Nothing →
         NoneSolves m lines }
+    ensures spent { (m : Semantics C) (skips : Skips) (lines size : ℕ) (answer : Answer) →
+        IsFair m skips → IsAccepted m skips lines answer → IsSpentAt size answer.outcome →
+        NoneShorter m size }
 {}

@@ -24,14 +24,6 @@ IsReplyStatus ReadFault = ⊥
 IsReplyStatus WriteFault = ⊥
 IsReplyStatus OutOfMemory = ⊥
 
--- the status of an answer
-abbrev pub IsVerdict : Status → Type 0
-IsVerdict Done = Unit {0}
-IsVerdict No = Unit {0}
-IsVerdict SpentExpansions = Unit {0}
-IsVerdict SpentRun = Unit {0}
-IsVerdict _ = ⊥
-
 -- what a job comes to, as a reply: a fault ends it with the reply that tells it
 abbrev pub told : Result Reply Halt → Result Reply NoReply
 told (Ok reply) = Ok reply

@@ -4,7 +4,9 @@ use Rattle.input_reading.proofs.Chain.{knowing}
 use Rattle.bfgp_jobs.specs.Due.{Due}
 use Rattle.bfgp_jobs.specs.Headline.{Headline}
 use Rattle.bfgp_jobs.specs.Answers.{Answers}
+use Rattle.bfgp_jobs.specs.Acceptance.{CheckAccepts}
 use Rattle.bfgp_jobs.proofs.Headlines.{headline}
+use Rattle.bfgp_jobs.proofs.Accepting.{check_accepts}
 use Rattle.bfgp_jobs.proofs.Written.{written_due}
 use Rattle.bfgp_jobs.proofs.top.bfgp.Goals as goal
 
@@ -15,6 +17,15 @@ returns-in-Ok-clause-headline g c =
     let new = g.K.Sink.written c.write.new.out in
     knowing (g.S.Shelf.files c.args.shelf.now) (λ (files : Files). Due words files c.in-Ok.reply) (λ (files : Files). Headline words files c.write.result old new)
     (λ files due. headline words files c.in-Ok.reply c.write.result old new due c.write.ensures.writes)
+    c.in-Ok.ensures.due
+
+pub returns-in-Ok-clause-check_accepts : goal.returns-in-Ok-clause-check_accepts
+returns-in-Ok-clause-check_accepts g c =
+    let words = map string_bytes c.args.words.now in
+    let old = g.K.Sink.written c.args.out.now in
+    let new = g.K.Sink.written c.write.new.out in
+    knowing (g.S.Shelf.files c.args.shelf.now) (λ (files : Files). Due words files c.in-Ok.reply) (λ (files : Files). CheckAccepts words files c.write.result old new)
+    (λ files due. check_accepts words files c.in-Ok.reply c.write.result old new due c.write.ensures.writes)
     c.in-Ok.ensures.due
 
 pub returns-in-Ok-clause-due : goal.returns-in-Ok-clause-due

@@ -2,7 +2,7 @@ use Rattle.std.proofs.Common.{arith, rules, sym, ◌≡◌, ◌-◌, List, ℕ, 
 use Rattle.std.proofs.lemmas.Result.{err_from_is_err_and}
 use Rattle.command_words.specs.Words.{RunJobOf, JobOf}
 use Rattle.command_words.proofs.Readings.{refused, after_run}
-use Rattle.command_words.specs.declared.job.Job.TheVariants.{Synth, Run}
+use Rattle.command_words.specs.declared.job.Job.TheVariants.{Synth, Check, Run}
 use Rattle.command_words.proofs.Spelled.{first_word}
 use Rattle.command_words.proofs.reading.job_of.Goals as goal
 
@@ -26,3 +26,9 @@ returns-in_ok-run_job_of c =
     let command : string_bytes c.command-item.result ≡ codes "run" = search rules in
     let words = first_word string_bytes c.args.words.now c.command-item.result (omega arith) c.command-item.is in
     subst (λ (w : List (List ℕ)). JobOf w (Run c.in_ok-run_job_of.field-0)) (sym words) (command, c.in_ok-run_job_of.ensures)
+
+pub returns-in_ok-check_job_of : goal.returns-in_ok-check_job_of
+returns-in_ok-check_job_of c =
+    let command : string_bytes c.command-item.result ≡ codes "check" = search rules in
+    let words = first_word string_bytes c.args.words.now c.command-item.result (omega arith) c.command-item.is in
+    subst (λ (w : List (List ℕ)). JobOf w (Check c.in_ok-check_job_of.field-0)) (sym words) (command, c.in_ok-check_job_of.ensures)
