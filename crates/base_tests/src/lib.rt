@@ -3,6 +3,10 @@
 #![tactic(auto)]
 
 #[cfg(test)]
+mod checks;
+#[cfg(test)]
 mod containers;
 #[cfg(test)]
-mod outside;
+mod files;
+#[cfg(test)]
+mod puts;

@@ -3,10 +3,16 @@
 #![tactic(auto)]
 
 #[cfg(test)]
+mod checks;
+#[cfg(test)]
 mod lexing;
 #[cfg(test)]
 mod parsing;
 #[cfg(test)]
+mod places;
+#[cfg(test)]
 mod printing;
 #[cfg(test)]
 mod tasks;
+#[cfg(test)]
+mod texts;

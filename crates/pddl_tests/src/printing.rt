@@ -1,54 +1,47 @@
-ghost use Rattle.std.specs.Prelude.{◌≤◌, length};
-ghost use Rattle.flag_rules.specs.declared.file.TheConstants.{MAX_FILE_BYTES};
-
-use flag_rules::{List, MAX_FILE_BYTES, OutOfMemory, Text};
-use pddl_parser::{DomainText, ParseRefusal, SharedWord, Typed, Word, domain, problem};
+use crate::checks::check_bytes;
+use crate::texts::{domain_text, problem_text};
+use flag_rules::{List, OutOfMemory, Text};
+use pddl_parser::{DomainText, SharedWord, Typed, Word};
 use pddl_printer::{print_domain, print_problem};
 use std::alloc::Global;
+use std::process::Abort;
+use std::test::Fail;
 
-fn domain_reprinted(alloc: Global, bytes: &[u8]) -> Result<Vec<u8>, ParseRefusal>
-    requires { length bytes.now ≤ MAX_FILE_BYTES }
-{
-    let text = domain(alloc, bytes)?;
-    match print_domain(alloc, &text) {
-        Ok(printed) => Ok(printed),
-        Err(OutOfMemory) => Err(ParseRefusal::OutOfMemory),
-    }
+/// The bytes of a domain, read and printed.
+fn domain_reprinted(alloc: Global, bytes: &[u8]) -> Result<Vec<u8>, Fail> {
+    let text = domain_text(alloc, bytes)?;
+    Ok(print_domain(alloc, &text)?)
 }
 
-fn problem_reprinted(alloc: Global, bytes: &[u8]) -> Result<Vec<u8>, ParseRefusal>
-    requires { length bytes.now ≤ MAX_FILE_BYTES }
-{
-    let text = problem(alloc, bytes)?;
-    match print_problem(alloc, &text) {
-        Ok(printed) => Ok(printed),
-        Err(OutOfMemory) => Err(ParseRefusal::OutOfMemory),
-    }
+/// The bytes of a problem, read and printed.
+fn problem_reprinted(alloc: Global, bytes: &[u8]) -> Result<Vec<u8>, Fail> {
+    let text = problem_text(alloc, bytes)?;
+    Ok(print_problem(alloc, &text)?)
 }
+
+const LIGHTS: &[u8] =
+    b"(define (domain Lights) (:predicates (lit ?x))\n (:action light :effect (lit ?x) :parameters (?x)))";
+
+const LIGHTS_PRINTED: &[u8] =
+    b"( define ( domain lights ) ( :requirements ) ( :types ) ( :constants ) ( :predicates ( lit ?x ) ) ( :action light :parameters ( ?x ) :precondition ( and ) :effect ( and ( lit ?x ) ) ) )\n";
 
 #[test]
-fn prints_a_domain_with_every_section(rt: HostRuntime) -> Result<(), ParseRefusal> {
-    let printed = domain_reprinted(
-        rt.alloc(),
-        b"(define (domain Lights) (:predicates (lit ?x))\n (:action light :effect (lit ?x) :parameters (?x)))",
-    )?;
-    assert_eq!(rt;
-        printed.as_slice(),
-        b"( define ( domain lights ) ( :requirements ) ( :types ) ( :constants ) ( :predicates ( lit ?x ) ) ( :action light :parameters ( ?x ) :precondition ( and ) :effect ( and ( lit ?x ) ) ) )\n".as_slice()
-    );
+fn prints_a_domain_with_every_section(rt: HostRuntime) -> Result<(), Fail> {
+    let printed = domain_reprinted(rt.alloc(), LIGHTS)?;
+    check_bytes(&rt, printed.as_slice(), LIGHTS_PRINTED);
     Ok(())
 }
 
+const TYPED_EVENING: &[u8] =
+    b"(define (problem evening) (:requirements :typing) (:goal (lit lamp)) (:objects lamp desk - light hall) (:domain lights))";
+
+const TYPED_EVENING_PRINTED: &[u8] =
+    b"( define ( problem evening ) ( :domain lights ) ( :requirements :typing ) ( :objects lamp - light desk - light hall ) ( :init ) ( :goal ( and ( lit lamp ) ) ) )\n";
+
 #[test]
-fn prints_a_problem_with_every_section(rt: HostRuntime) -> Result<(), ParseRefusal> {
-    let printed = problem_reprinted(
-        rt.alloc(),
-        b"(define (problem evening) (:requirements :typing) (:goal (lit lamp)) (:objects lamp desk - light hall) (:domain lights))",
-    )?;
-    assert_eq!(rt;
-        printed.as_slice(),
-        b"( define ( problem evening ) ( :domain lights ) ( :requirements :typing ) ( :objects lamp - light desk - light hall ) ( :init ) ( :goal ( and ( lit lamp ) ) ) )\n".as_slice()
-    );
+fn prints_a_problem_with_every_section(rt: HostRuntime) -> Result<(), Fail> {
+    let printed = problem_reprinted(rt.alloc(), TYPED_EVENING)?;
+    check_bytes(&rt, printed.as_slice(), TYPED_EVENING_PRINTED);
     Ok(())
 }
 
@@ -59,38 +52,57 @@ fn word(alloc: Global, text: &[u8]) -> Result<Word, OutOfMemory> {
     })
 }
 
-fn constants(alloc: Global) -> Result<List<Typed>, OutOfMemory> {
-    let mut names = List::new(alloc);
-    names.push(Typed {
-        word: word(alloc, b"door")?,
-        of: None,
-    })?;
-    names.push(Typed {
-        word: word(alloc, b"lamp")?,
-        of: Some(SharedWord::new(alloc, word(alloc, b"light")?)?),
-    })?;
-    names.push(Typed {
-        word: word(alloc, b"hall")?,
-        of: None,
-    })?;
-    Ok(names)
+fn shared_word(alloc: Global, text: &[u8]) -> Result<SharedWord, OutOfMemory> {
+    SharedWord::new(alloc, word(alloc, text)?)
 }
+
+fn untyped(alloc: Global, name: &[u8]) -> Result<Typed, OutOfMemory> {
+    Ok(Typed {
+        word: word(alloc, name)?,
+        of: None,
+    })
+}
+
+fn typed(alloc: Global, name: &[u8], of: &[u8]) -> Result<Typed, OutOfMemory> {
+    let of = Some(shared_word(alloc, of)?);
+    Ok(Typed {
+        word: word(alloc, name)?,
+        of,
+    })
+}
+
+fn add_constants(alloc: Global, names: &mut List<Typed>) -> Result<(), OutOfMemory> {
+    names.push(untyped(alloc, b"door")?)?;
+    names.push(typed(alloc, b"lamp", b"light")?)?;
+    names.push(untyped(alloc, b"hall")?)
+}
+
+/// A domain that has constants alone.
+fn domain_with(alloc: Global, name: Word, constants: List<Typed>) -> DomainText {
+    DomainText {
+        name,
+        requirements: List::new(alloc),
+        types: List::new(alloc),
+        constants,
+        predicates: List::new(alloc),
+        actions: List::new(alloc),
+    }
+}
+
+fn constants_printed(alloc: Global) -> Result<Vec<u8>, OutOfMemory> {
+    let mut constants = List::new(alloc);
+    add_constants(alloc, &mut constants)?;
+    let text = domain_with(alloc, word(alloc, b"lights")?, constants);
+    print_domain(alloc, &text)
+}
+
+const CONSTANTS_PRINTED: &[u8] =
+    b"( define ( domain lights ) ( :requirements ) ( :types ) ( :constants door - object lamp - light hall ) ( :predicates ) )\n";
 
 #[test]
 fn gives_a_word_the_type_object_before_a_typed_one(rt: HostRuntime) -> Result<(), OutOfMemory> {
-    let alloc = rt.alloc();
-    let text = DomainText {
-        name: word(alloc, b"lights")?,
-        requirements: List::new(alloc),
-        types: List::new(alloc),
-        constants: constants(alloc)?,
-        predicates: List::new(alloc),
-        actions: List::new(alloc),
-    };
-    assert_eq!(rt;
-        print_domain(alloc, &text)?.as_slice(),
-        b"( define ( domain lights ) ( :requirements ) ( :types ) ( :constants door - object lamp - light hall ) ( :predicates ) )\n".as_slice()
-    );
+    let printed = constants_printed(rt.alloc())?;
+    check_bytes(&rt, printed.as_slice(), CONSTANTS_PRINTED);
     Ok(())
 }
 
@@ -124,17 +136,24 @@ const EVENING: &[u8] =
 
 const NIGHT: &[u8] = b"(define (problem night) (:domain lights) (:goal ()))";
 
-#[test]
-fn prints_what_was_printed_as_it_is(rt: HostRuntime) -> Result<(), ParseRefusal> {
-    for text in [CORRIDOR, GRIPPER] {
-        let once = domain_reprinted(rt.alloc(), text)?;
-        let twice = domain_reprinted(rt.alloc(), &once[..once.len().min(MAX_FILE_BYTES)])?;
-        assert_eq!(rt; twice.as_slice(), once.as_slice());
-    }
-    for text in [EVENING, NIGHT] {
-        let once = problem_reprinted(rt.alloc(), text)?;
-        let twice = problem_reprinted(rt.alloc(), &once[..once.len().min(MAX_FILE_BYTES)])?;
-        assert_eq!(rt; twice.as_slice(), once.as_slice());
-    }
+fn check_domain<R: Abort>(rt: &R, alloc: Global, bytes: &[u8]) -> Result<(), Fail> {
+    let once = domain_reprinted(alloc, bytes)?;
+    let twice = domain_reprinted(alloc, &once)?;
+    check_bytes(rt, twice.as_slice(), once.as_slice());
     Ok(())
+}
+
+fn check_problem<R: Abort>(rt: &R, alloc: Global, bytes: &[u8]) -> Result<(), Fail> {
+    let once = problem_reprinted(alloc, bytes)?;
+    let twice = problem_reprinted(alloc, &once)?;
+    check_bytes(rt, twice.as_slice(), once.as_slice());
+    Ok(())
+}
+
+#[test]
+fn prints_what_was_printed_as_it_is(rt: HostRuntime) -> Result<(), Fail> {
+    check_domain(&rt, rt.alloc(), CORRIDOR)?;
+    check_domain(&rt, rt.alloc(), GRIPPER)?;
+    check_problem(&rt, rt.alloc(), EVENING)?;
+    check_problem(&rt, rt.alloc(), NIGHT)
 }

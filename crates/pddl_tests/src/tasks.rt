@@ -1,9 +1,11 @@
-ghost use Rattle.std.specs.Prelude.{IfOk};
 ghost use Rattle.pddl_parser.specs.Replies.{IsDomainText, IsProblemText};
 
-use flag_rules::MAX_FILE_BYTES;
-use ground_state::{Fact, Instance, Lifted, ObjectEntry, SchemaEntry, Task, Term, TypeEntry};
-use pddl_parser::{DomainText, ProblemText, domain, problem};
+use crate::checks::check_reply;
+use crate::texts::{domain_text, problem_text};
+use ground_state::{
+    Fact, Instance, InstanceParts, Lifted, ObjectEntry, SchemaEntry, Task, Term, TypeEntry,
+};
+use pddl_parser::{DomainText, ProblemText};
 use pddl_task::{TaskRefusal, Which, instance, task};
 use std::alloc::Global;
 use std::test::Fail;
@@ -14,24 +16,6 @@ const CELLS: &[u8] = b"(define (domain cells) (:types cell - place) (:constants 
 
 const LIT: &[u8] =
     b"(define (problem one) (:domain cells) (:objects a - cell) (:init (lit home)) (:goal (lit a)))";
-
-fn domain_text(alloc: Global, bytes: &[u8]) -> Result<DomainText, Fail>
-    ensures { IfOk result IsDomainText }
-{
-    if bytes.len() > MAX_FILE_BYTES {
-        return Err(Fail::new("too long"));
-    }
-    Ok(domain(alloc, bytes)?)
-}
-
-fn problem_text(alloc: Global, bytes: &[u8]) -> Result<ProblemText, Fail>
-    ensures { IfOk result IsProblemText }
-{
-    if bytes.len() > MAX_FILE_BYTES {
-        return Err(Fail::new("too long"));
-    }
-    Ok(problem(alloc, bytes)?)
-}
 
 /// The task of the text of a domain.
 fn task_of(alloc: Global, bytes: &[u8]) -> Result<Task, Fail> {
@@ -58,17 +42,38 @@ fn instance_of(
     instance(alloc, &task, over, text)
 }
 
-fn is_type(types: &[TypeEntry], number: usize, name: &[u8], parent: u32) -> bool {
-    match types.get(number) {
-        Some(entry) => entry.name.as_slice() == name && entry.parent == parent,
-        None => false,
+/// The instance of `LIT` over `CELLS`.
+fn lit_cells(alloc: Global) -> Result<Instance, Fail> {
+    let over = domain_text(alloc, CELLS)?;
+    let text = problem_text(alloc, LIT)?;
+    Ok(instance_of(alloc, &over, &text)?)
+}
+
+fn is_type(entry: &TypeEntry, name: &[u8], parent: u32) -> bool {
+    entry.name.as_slice() == name && entry.parent == parent
+}
+
+/// Whether the types are those of `CELLS`.
+fn are_cell_types(types: &[TypeEntry]) -> bool {
+    match types {
+        [first, second, third] => {
+            is_type(first, b"object", 0)
+                && is_type(second, b"cell", 2)
+                && is_type(third, b"place", 0)
+        }
+        _ => false,
     }
 }
 
-fn is_object(objects: &[ObjectEntry], number: usize, name: &[u8], of: u32) -> bool {
-    match objects.get(number) {
-        Some(entry) => entry.name.as_slice() == name && entry.of == of,
-        None => false,
+fn is_object(entry: &ObjectEntry, name: &[u8], of: u32) -> bool {
+    entry.name.as_slice() == name && entry.of == of
+}
+
+/// Whether the objects are the constant of `CELLS` and the object of `LIT`.
+fn are_cell_objects(objects: &[ObjectEntry]) -> bool {
+    match objects {
+        [first, second] => is_object(first, b"home", 2) && is_object(second, b"a", 1),
+        _ => false,
     }
 }
 
@@ -100,14 +105,16 @@ fn is_light(schemas: &[SchemaEntry]) -> bool {
     }
 }
 
+fn is_lit_cells(parts: &InstanceParts) -> bool {
+    are_cell_objects(parts.objects.as_slice())
+        && is_fact(parts.init.as_slice(), 0)
+        && is_fact(parts.goal.as_slice(), 1)
+}
+
 #[test]
 fn types_are_numbered_by_first_appearance(rt: HostRuntime) -> Result<(), Fail> {
     let made = task_of(rt.alloc(), CELLS)?;
-    let types = made.parts().types.as_slice();
-    assert_eq!(rt; types.len(), 3);
-    assert!(rt; is_type(types, 0, b"object", 0));
-    assert!(rt; is_type(types, 1, b"cell", 2));
-    assert!(rt; is_type(types, 2, b"place", 0));
+    assert!(rt; are_cell_types(made.parts().types.as_slice()));
     Ok(())
 }
 
@@ -120,28 +127,26 @@ fn actions_speak_of_parameters_and_constants(rt: HostRuntime) -> Result<(), Fail
 
 #[test]
 fn constants_stand_before_objects(rt: HostRuntime) -> Result<(), Fail> {
-    let alloc = rt.alloc();
-    let over = domain_text(alloc, CELLS)?;
-    let text = problem_text(alloc, LIT)?;
-    let made = instance_of(alloc, &over, &text)?;
-    let objects = made.parts().objects.as_slice();
-    assert_eq!(rt; objects.len(), 2);
-    assert!(rt; is_object(objects, 0, b"home", 2));
-    assert!(rt; is_object(objects, 1, b"a", 1));
-    assert!(rt; is_fact(made.parts().init.as_slice(), 0));
-    assert!(rt; is_fact(made.parts().goal.as_slice(), 1));
+    let made = lit_cells(rt.alloc())?;
+    assert!(rt; is_lit_cells(made.parts()));
     Ok(())
 }
 
+const REFUSALS: &[(&[u8], TaskRefusal)] = &[
+    (
+        b"(define (domain d) (:types a b - c c - b a) (:predicates (p ?a ?b ?c ?d ?e)))",
+        TaskRefusal::TypeCycle(27),
+    ),
+    (
+        b"(define (domain d) (:types a b - c) (:predicates (p ?a ?b ?c ?d ?e)))",
+        TaskRefusal::Limit(Which::Arity, 5),
+    ),
+];
+
 #[test]
 fn a_fault_is_told_before_a_limit(rt: HostRuntime) -> Result<(), Fail> {
-    let alloc = rt.alloc();
-    let cycle = b"(define (domain d) (:types a b - c c - b a) (:predicates (p ?a ?b ?c ?d ?e)))";
-    assert_eq!(rt; refused(alloc, cycle)?, Some(TaskRefusal::TypeCycle(27)));
-    let wide = b"(define (domain d) (:types a b - c) (:predicates (p ?a ?b ?c ?d ?e)))";
-    assert_eq!(rt;
-        refused(alloc, wide)?,
-        Some(TaskRefusal::Limit(Which::Arity, 5))
-    );
+    for (text, refusal) in REFUSALS {
+        check_reply(&rt, text, &refused(rt.alloc(), text)?, &Some(*refusal));
+    }
     Ok(())
 }

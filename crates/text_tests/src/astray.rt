@@ -1,23 +1,35 @@
 //! The lines at which bytes go astray that are no answer document.
 
+use crate::checks::check_reply;
 use crate::documents::FOUND;
-use crate::two_operations::two_names;
+use crate::two_operations::plain_names;
 use answer_reader::{AnswerRefusal, read_answer};
+use program_text::Names;
 use std::alloc::{AllocError, Global};
+use std::process::Abort;
 use std::test::Fail;
 
 // The document with other lines in place of one, by its number from 1.
 fn with_line(alloc: Global, number: usize, lines: &str) -> Result<String, AllocError> {
     let mut text = String::new(alloc);
     for (place, line) in FOUND.lines().enumerate() {
-        if place + 1 == number {
-            text.push_str(lines)?;
-        } else {
-            text.push_str(line)?;
-            text.push_str("\n")?;
-        }
+        let other = (place + 1 == number).then_some(lines);
+        add_line(&mut text, line, other)?;
     }
     Ok(text)
+}
+
+// Adds a line, or what stands in its place.
+fn add_line(text: &mut String, line: &str, other: Option<&str>) -> Result<(), AllocError> {
+    match other {
+        Some(lines) => text.push_str(lines),
+        None => add_whole_line(text, line),
+    }
+}
+
+fn add_whole_line(text: &mut String, line: &str) -> Result<(), AllocError> {
+    text.push_str(line)?;
+    text.push_str("\n")
 }
 
 // What stands in place of a line of the document, by the line's number, and the line at which the bytes then go astray.
@@ -63,21 +75,29 @@ const ROWS: &[(usize, &str, u64)] = &[
     (16, "end of answer\n\n", 17),
 ];
 
+/// Why a text is no answer document, if it is none.
+fn refusal_of(alloc: Global, text: &[u8], names: &Names) -> Option<AnswerRefusal> {
+    read_answer(alloc, text, names).err()
+}
+
+fn check_line<R: Abort>(rt: &R, alloc: Global, names: &Names, text: &str, astray: u64) {
+    let refusal = refusal_of(alloc, text.as_bytes(), names);
+    check_reply(rt, text, &refusal, &Some(AnswerRefusal::Line(astray)));
+}
+
 #[test]
 fn the_line_at_which_bytes_go_astray(rt: HostRuntime) -> Result<(), Fail> {
-    let names = two_names(rt.alloc())?;
+    let names = plain_names(rt.alloc())?;
     for &(number, lines, astray) in ROWS {
         let text = with_line(rt.alloc(), number, lines)?;
-        let refusal = read_answer(rt.alloc(), text.as_bytes(), &names).err();
-        assert_eq!(rt; refusal, Some(AnswerRefusal::Line(astray)), "{text}");
+        check_line(&rt, rt.alloc(), &names, text.as_str(), astray);
     }
     Ok(())
 }
 
 #[test]
 fn no_bytes_go_astray_at_line_1(rt: HostRuntime) -> Result<(), Fail> {
-    let names = two_names(rt.alloc())?;
-    let refusal = read_answer(rt.alloc(), b"", &names).err();
-    assert_eq!(rt; refusal, Some(AnswerRefusal::Line(1)));
+    let names = plain_names(rt.alloc())?;
+    check_line(&rt, rt.alloc(), &names, "", 1);
     Ok(())
 }

@@ -1,9 +1,13 @@
 //! Answer documents: read, and written again byte for byte.
 
-use crate::two_operations::two_names;
-use answer_reader::read_answer;
+use crate::checks::{check_reply, check_written};
+use crate::sinks::{failing_sink, sink_of};
+use crate::two_operations::plain_names;
+use answer_reader::{AnswerRefusal, read_answer};
 use answer_writer::write_answer;
 use bfgp_outside::MemorySink;
+use program_text::Names;
+use std::alloc::Global;
 use std::test::Fail;
 
 /// A program of two lines was found.
@@ -78,14 +82,24 @@ r 1
 end of answer
 ";
 
+/// Reads a document and writes it to a sink, and tells whether it was put; a document that is refused is not.
+fn write_again(
+    alloc: Global,
+    names: &Names,
+    document: &str,
+    sink: &mut MemorySink,
+) -> Result<bool, AnswerRefusal> {
+    let answer = read_answer(alloc, document.as_bytes(), names)?;
+    Ok(write_answer(sink, &answer, names).is_ok())
+}
+
 #[test]
 fn documents_that_are_read_are_written_as_they_were(rt: HostRuntime) -> Result<(), Fail> {
-    let names = two_names(rt.alloc())?;
+    let names = plain_names(rt.alloc())?;
     for document in [FOUND, NONE, SPENT_EXPANSIONS, SPENT_RUN] {
-        let answer = read_answer(rt.alloc(), document.as_bytes(), &names)?;
-        let mut sink = MemorySink::new(rt.alloc(), 1024, 16)?;
-        assert!(rt; write_answer(&mut sink, &answer, &names).is_ok());
-        assert_eq!(rt; sink.written(), document.as_bytes());
+        let mut sink = sink_of(rt.alloc(), 16)?;
+        assert!(rt; write_again(rt.alloc(), &names, document, &mut sink)?);
+        check_written(&rt, &sink, document);
     }
     Ok(())
 }
@@ -93,14 +107,12 @@ fn documents_that_are_read_are_written_as_they_were(rt: HostRuntime) -> Result<(
 // A document that is short is put in one piece, so that no second put fails.
 #[test]
 fn a_document_is_put_in_one_piece(rt: HostRuntime) -> Result<(), Fail> {
-    let names = two_names(rt.alloc())?;
-    let answer = read_answer(rt.alloc(), FOUND.as_bytes(), &names)?;
+    let names = plain_names(rt.alloc())?;
     for (call, want) in [(0, ""), (1, FOUND)] {
-        let mut sink = MemorySink::new(rt.alloc(), 1024, 1024)?;
-        sink.fail_at(call)?;
-        let put = write_answer(&mut sink, &answer, &names);
-        assert_eq!(rt; put.is_ok(), call == 1);
-        assert_eq!(rt; sink.written(), want.as_bytes());
+        let mut sink = failing_sink(rt.alloc(), 1024, call)?;
+        let is_put = write_again(rt.alloc(), &names, FOUND, &mut sink)?;
+        check_reply(&rt, want, &is_put, &(call == 1));
+        check_written(&rt, &sink, want);
     }
     Ok(())
 }

@@ -5,8 +5,12 @@
 #[cfg(test)]
 mod astray;
 #[cfg(test)]
+mod checks;
+#[cfg(test)]
 mod documents;
 #[cfg(test)]
 mod programs;
+#[cfg(test)]
+mod sinks;
 #[cfg(test)]
 mod two_operations;
