@@ -1,6 +1,6 @@
 -- What is asked of the marks of a tree, one after another: of each, that it is of the grammar, and where the tree has to
 -- cover, that it shows what it says.
-use Rattle.std.specs.Prelude.{◌≡◌, ℕ, ◌<◌, ◌≤◌, ◌↔◌, IsTrue, Bool, List, [], ◌∷◌, ◌++◌, All, length, drop, slice_index_or, option_to_list}
+use Rattle.std.specs.Prelude.{◌≡◌, ℕ, ◌<◌, ◌≤◌, ◌↔◌, IsTrue, Bool, List, [], ◌∷◌, ◌++◌, All, length, drop, reverse, flat_map, slice_index_or, option_to_list}
 use Rattle.program_model.specs.Semantics.{Semantics}
 use Rattle.program_model.specs.Program.{Program, IsOpen, IsPartial}
 use Rattle.program_model.specs.Run.{Unmet, Loops}
@@ -72,8 +72,7 @@ waiting ops family = drop family.rank (child_programs ops family.parent family.l
 
 -- those of several families, of which the last comes first
 abbrev pub waiting_in : {C : Type 0} → ℕ → List (Family C) → List Program
-waiting_in ops [] = []
-waiting_in ops (family ∷ later) = waiting_in ops later ++ waiting ops family
+waiting_in ops families = flat_map (waiting ops) (reverse families)
 
 -- a family that was split at an undefined line, and has a child left; its tracks are the parent's
 pub record IsOpenFamily {C : Type 0} (m : Semantics C) (belongs : ℕ → C → Type 0) (family : Family C) : Type 0 where
