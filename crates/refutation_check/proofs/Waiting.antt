@@ -1,6 +1,6 @@
 -- Programs that wait for a mark: those of the family that was split last come first.
-use Rattle.std.proofs.Common.{◌≡◌, ℕ, zero, suc, ◌+◌, ◌-◌, ◌<◌, ◌≤◌, List, [], ◌∷◌, ◌++◌, length, take, drop, set, get_or, refl, sym, ◌∙◌, ap, arith, append_assoc, subst}
-use Rattle.std.specs.Prelude.{Option, Some, None, slice_get, option_map, option_to_list}
+use Rattle.std.proofs.Common.{◌≡◌, ℕ, zero, suc, ◌+◌, ◌-◌, ◌<◌, ◌≤◌, List, [], ◌∷◌, ◌++◌, length, take, drop, set, get_or, refl, sym, ◌∙◌, ap, arith, append_assoc, subst, nat_lt}
+use Rattle.std.specs.Prelude.{◌↔◌, IsTrue, Option, Some, None, slice_get, option_map, option_to_list}
 use Rattle.std.proofs.lemmas.List.{drop_all}
 use Rattle.std.proofs.lemmas.Option.{slice_get-map, slice_get-get_or, slice_get_within, get_or_from_slice_get, same_Some, none-some}
 use Rattle.program_model.specs.declared.instr.Instr.{Instr}
@@ -8,7 +8,9 @@ use Rattle.program_model.specs.Alphabet.{alphabet}
 use Rattle.program_model.specs.Semantics.{Semantics}
 use Rattle.program_model.specs.declared.instr.Instr.TheVariants.{End}
 use Rattle.program_model.specs.Program.{Program, with_line, IsOpen, IsPartial, Extends}
-use Rattle.program_model.proofs.Programs.{extends_with_line, open_is_not_last}
+use Rattle.program_model.proofs.Places.{contains_at}
+use Rattle.program_model.proofs.Programs.{extends_with_line, open_is_not_last, partial_with_line}
+use Rattle.std.proofs.lemmas.Bool.Decides.{nat_tests}
 use Rattle.refutation_check.specs.Inner.Runs.{IsTrack}
 use Rattle.std.proofs.lemmas.List.Elements.{All-nil}
 use Rattle.program_model.proofs.Alphabets.{length-alphabet}
@@ -36,6 +38,44 @@ waiting_next {C} ops family after child next =
 taken : {C : Type 0} (ops last : ℕ) (families : List (Family C)) (family after : Family C) (child : Program) → length families ≡ last + 1 → get_or families last family ≡ family → IsAfter ops family after child
     → waiting_in ops families ≡ child ∷ waiting_in ops (set families last after)
 taken ops last families family after child size here next = without_first (waiting ops) last families family after child size here (waiting_next ops family after child next)
+
+-- ---- the child of a family's rank
+
+below_tested : (n count other : ℕ) → count ≡ other → IsTrue (nat_lt n count) → n < other
+below_tested n count other same h = grind (arith, nat_tests)
+
+tested_below : (n count other : ℕ) → count ≡ other → n < other → IsTrue (nat_lt n count)
+tested_below n count other same h = grind (arith, nat_tests)
+
+module _ {C : Type 0} (m : Semantics C) (belongs : ℕ → C → Type 0) (family : Family C) (h : IsOpenFamily m belongs family) (ops lines : ℕ) (same_ops : ops ≡ m.ops) (count : lines ≡ length family.parent) where
+  -- the line and the rank are there
+  pub line_within : family.line < lines
+  line_within = let within = h.here.within in omega (arith, count, within)
+
+  pub rank_within : family.rank < length (alphabet ops lines family.line)
+  rank_within = let left = h.left in rw (same_ops, count) (omega (arith, left, count_children m.ops family.parent family.line))
+
+  module _ (instr : Instr) (copied child : Program) (ranked : slice_get (alphabet ops lines family.line) family.rank ≡ Some instr) (copy : copied ≡ family.parent) (defined : child ≡ with_line copied family.line instr) where
+    ranked_there : slice_get (alphabet m.ops (length family.parent) family.line) family.rank ≡ Some instr
+    ranked_there = rw (← same_ops, ← count) ranked
+
+    is_child : with_line family.parent family.line instr ≡ child
+    is_child = ap (λ (q : Program). with_line q family.line instr) (sym copy) ∙ sym defined
+
+    -- with the instruction of the rank the parent is the child
+    pub child_of_rank : slice_get (child_programs m.ops family.parent family.line) family.rank ≡ Some child
+    child_of_rank = child_at m.ops (length family.parent) family.parent family.line family.rank instr refl ranked_there ∙ ap Some is_child
+
+    pub child_is_partial : IsPartial m.ops child
+    child_is_partial =
+        let fits = contains_at (alphabet m.ops (length family.parent) family.line) family.rank instr ranked_there in
+        subst (IsPartial m.ops) is_child (partial_with_line m.ops family.parent family.line instr h.partial h.here fits)
+
+  -- a rank is tested by how many instructions there are
+  pub rank_tested : (rank children : ℕ) → children ≡ length (alphabet ops lines family.line) → IsTrue (nat_lt rank children) ↔ (rank < length (child_programs m.ops family.parent family.line))
+  rank_tested rank children size =
+      let same : children ≡ length (child_programs m.ops family.parent family.line) = size ∙ ap (λ (n : ℕ). length (alphabet n lines family.line)) same_ops ∙ ap (λ (n : ℕ). length (alphabet m.ops n family.line)) count ∙ sym (count_children m.ops family.parent family.line) in
+      (below_tested rank children (length (child_programs m.ops family.parent family.line)) same, tested_below rank children (length (child_programs m.ops family.parent family.line)) same)
 
 -- ---- the pending programs, before others
 
