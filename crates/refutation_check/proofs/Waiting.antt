@@ -1,8 +1,8 @@
 -- Programs that wait for a mark: those of the family that was split last come first.
-use Rattle.std.proofs.Common.{◌≡◌, ℕ, zero, suc, ◌+◌, ◌-◌, ◌<◌, ◌≤◌, List, [], ◌∷◌, ◌++◌, length, take, drop, set, get_or, refl, sym, ◌∙◌, ap, arith, append_assoc, subst, nat_lt}
-use Rattle.std.specs.Prelude.{◌↔◌, IsTrue, Option, Some, None, slice_get, option_map, option_to_list}
+use Rattle.std.proofs.Common.{◌≡◌, ℕ, ◌+◌, ◌-◌, ◌<◌, ◌≤◌, List, [], ◌∷◌, ◌++◌, length, take, drop, set, get_or, refl, sym, ◌∙◌, ap, arith, append_assoc, subst, nat_lt}
+use Rattle.std.specs.Prelude.{◌↔◌, IsTrue, Option, Some, None, slice_get, option_to_list}
 use Rattle.std.proofs.lemmas.List.{drop_all}
-use Rattle.std.proofs.lemmas.Option.{slice_get-map, slice_get-get_or, slice_get_within, get_or_from_slice_get, same_Some, none-some}
+use Rattle.std.proofs.lemmas.Option.{slice_get-get_or, slice_get_within, get_or_from_slice_get, none-some}
 use Rattle.program_model.specs.declared.instr.Instr.{Instr}
 use Rattle.program_model.specs.Alphabet.{alphabet}
 use Rattle.program_model.specs.Semantics.{Semantics}
@@ -13,7 +13,6 @@ use Rattle.program_model.proofs.Programs.{extends_with_line, open_is_not_last, p
 use Rattle.std.proofs.lemmas.Bool.Decides.{nat_tests}
 use Rattle.refutation_check.specs.Inner.Runs.{IsTrack}
 use Rattle.std.proofs.lemmas.List.Elements.{All-nil}
-use Rattle.program_model.proofs.Alphabets.{length-alphabet}
 use Rattle.refutation_check.specs.declared.family.Family.{Family}
 use Rattle.refutation_tree.specs.Grammar.{child_programs}
 use Rattle.refutation_tree.proofs.Children.{count_children, child_at, some_children, left_from, one_more, without_first, with_same, without_empty}

@@ -1,4 +1,4 @@
-use Rattle.std.proofs.Common.{◌+◌, arith}
+use Rattle.std.proofs.Common.{arith}
 use Rattle.program_model.proofs.Programs.{open_is_not_last}
 use Rattle.refutation_check.proofs.Waiting.{line_within, rank_within, child_of_rank, child_is_partial}
 use Rattle.refutation_check.proofs.family.Family.child.Goals as goal

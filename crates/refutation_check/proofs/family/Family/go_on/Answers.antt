@@ -1,4 +1,4 @@
-use Rattle.std.proofs.Common.{◌+◌, ◌<◌, arith}
+use Rattle.std.proofs.Common.{◌+◌, arith}
 use Rattle.refutation_check.proofs.Waiting.{line_within, rank_within, rank_tested}
 use Rattle.refutation_check.proofs.family.Family.go_on.Goals as goal
 
