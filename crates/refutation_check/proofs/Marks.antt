@@ -1,8 +1,8 @@
 -- What is asked of the marks one after another is what is asked of a tree.
-use Rattle.std.proofs.Common.{◌≡◌, ℕ, suc, ◌+◌, ◌<◌, ◌≤◌, Bool, true, false, List, [], ◌∷◌, ◌++◌, map, length, drop, get_or, refl, sym, ◌∙◌, ap, subst, arith, drop-cons}
+use Rattle.std.proofs.Common.{◌≡◌, ℕ, ◌+◌, ◌<◌, ◌≤◌, Bool, true, false, List, [], ◌∷◌, ◌++◌, map, length, drop, get_or, refl, sym, ◌∙◌, ap, subst}
 use Rattle.std.specs.Prelude.{◌↔◌, All, IsTrue}
 use Rattle.std.proofs.lemmas.Bool.{true≢false}
-use Rattle.std.proofs.lemmas.List.{map-append}
+use Rattle.std.proofs.lemmas.List.{map-append, drop_all, drop_more}
 use Rattle.std.proofs.lemmas.List.Elements.{All-nil, All-cons, All-head, All-tail}
 use Rattle.program_model.specs.declared.instr.Instr.{Instr}
 use Rattle.program_model.specs.Alphabet.{alphabet}
@@ -15,7 +15,6 @@ use Rattle.refutation_tree.specs.Covers.{nobody, Child, children, Covers}
 use Rattle.refutation_tree.specs.Grammar.{IsInRange, child_programs, AreTrees}
 use Rattle.refutation_check.specs.Inner.Walking.{Stands, AllStand, brought}
 use Rattle.refutation_check.specs.Inner.Judging.{Holds}
-use Rattle.refutation_check.proofs.Waiting.{drop_past}
 
 -- a partial program that is not passed over
 abbrev plain : Program → Child
@@ -119,8 +118,7 @@ pub mark_taken : {C A : Type 0} (m : Semantics C) (covering after : Bool) (qs re
     → A ↔ AllStand m covering qs (drop index items) → ((ms : List Mark) → AllStand m covering qs (get_or items index d ∷ ms) ↔ (IsTrue stood × AllStand m after rest ms))
     → A ↔ (IsTrue stood × AllStand m after rest (drop (index + 1) items))
 mark_taken m covering after qs rest items index d stood within on takes =
-    let later : suc index ≡ index + 1 = omega arith in
-    let cut : drop index items ≡ get_or items index d ∷ drop (index + 1) items = drop-cons items index d within ∙ ap (λ n. get_or items index d ∷ drop n items) later in
+    let cut = drop_more items index d within in
     let took = takes (drop (index + 1) items) in (
       λ a. took.0 (subst (AllStand m covering qs) cut (on.0 a)),
       λ both. on.1 (subst (AllStand m covering qs) (sym cut) (took.1 both)),
@@ -129,7 +127,7 @@ mark_taken m covering after qs rest items index d stood within on takes =
 -- when no mark is left
 pub no_mark_left : {C A : Type 0} (m : Semantics C) (covering : Bool) (qs : List Program) (items : List Mark) (index : ℕ) → length items ≤ index → A ↔ AllStand m covering qs (drop index items) → A ↔ (qs ≡ [])
 no_mark_left m covering qs items index past on =
-    let none = drop_past items index past in (
+    let none = drop_all index items past in (
       λ a. (none_left m covering qs).1 (subst (AllStand m covering qs) none (on.0 a)),
       λ e. on.1 (subst (AllStand m covering qs) (sym none) ((none_left m covering qs).0 e)),
     )

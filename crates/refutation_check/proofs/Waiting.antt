@@ -1,76 +1,24 @@
 -- Programs that wait for a mark: those of the family that was split last come first.
-use Rattle.std.proofs.Common.{◌≡◌, ℕ, zero, suc, ◌+◌, ◌-◌, ◌<◌, ◌≤◌, List, [], ◌∷◌, ◌++◌, length, take, drop, set, get_or, refl, sym, ◌∙◌, ap, arith, append_assoc, subst}
-use Rattle.std.specs.Prelude.{Option, Some, None, slice_get, option_map, option_to_list}
-use Rattle.std.proofs.lemmas.List.{length-map, append-nil}
-use Rattle.std.proofs.lemmas.Option.{slice_get-map, slice_get-get_or, slice_get_within, get_or_from_slice_get, same_Some, none-some}
+use Rattle.std.proofs.Common.{◌≡◌, ℕ, ◌+◌, ◌-◌, ◌<◌, ◌≤◌, List, [], ◌∷◌, ◌++◌, length, take, drop, set, get_or, refl, sym, ◌∙◌, ap, arith, append_assoc, subst, nat_lt}
+use Rattle.std.specs.Prelude.{◌↔◌, IsTrue, Option, Some, None, slice_get, option_to_list}
+use Rattle.std.proofs.lemmas.List.{drop_all}
+use Rattle.std.proofs.lemmas.Option.{slice_get-get_or, slice_get_within, get_or_from_slice_get, none-some}
 use Rattle.program_model.specs.declared.instr.Instr.{Instr}
 use Rattle.program_model.specs.Alphabet.{alphabet}
 use Rattle.program_model.specs.Semantics.{Semantics}
 use Rattle.program_model.specs.declared.instr.Instr.TheVariants.{End}
 use Rattle.program_model.specs.Program.{Program, with_line, IsOpen, IsPartial, Extends}
-use Rattle.program_model.proofs.Programs.{extends_with_line, open_is_not_last}
+use Rattle.program_model.proofs.Places.{contains_at}
+use Rattle.program_model.proofs.Programs.{extends_with_line, open_is_not_last, partial_with_line}
+use Rattle.std.proofs.lemmas.Bool.Decides.{nat_tests}
 use Rattle.refutation_check.specs.Inner.Runs.{IsTrack}
 use Rattle.std.proofs.lemmas.List.Elements.{All-nil}
-use Rattle.program_model.proofs.Alphabets.{length-alphabet}
 use Rattle.refutation_check.specs.declared.family.Family.{Family}
 use Rattle.refutation_tree.specs.Grammar.{child_programs}
+use Rattle.refutation_tree.proofs.Children.{count_children, child_at, some_children, left_from, one_more, without_first, with_same, without_empty}
 use Rattle.refutation_check.specs.Inner.Walking.{waiting, waiting_in, IsOpenFamily}
 
--- ---- children
-
-pub count_children : (ops : ℕ) (q : Program) (line : ℕ) → length (child_programs ops q line) ≡ length (alphabet ops (length q) line)
-count_children ops q line = length-map (alphabet ops (length q) line) (with_line q line)
-
-pub child_at : (ops lines : ℕ) (q : Program) (line rank : ℕ) (instr : Instr) → lines ≡ length q → slice_get (alphabet ops lines line) rank ≡ Some instr → slice_get (child_programs ops q line) rank ≡ Some (with_line q line instr)
-child_at ops lines q line rank instr size e =
-    slice_get-map (with_line q line) (alphabet ops (length q) line) rank ∙ ap (option_map (with_line q line)) (ap (λ (n : ℕ). slice_get (alphabet ops n line) rank) (sym size) ∙ e)
-
-some_children : (ops : ℕ) (q : Program) (line : ℕ) → 0 < ops → line + 1 < length q → 0 < length (child_programs ops q line)
-some_children ops q line some inner = omega (arith, some, count_children ops q line, length-alphabet ops (length q) line inner)
-
--- ---- the last of a list
-
-drop_there : {X : Type 0} (xs : List X) (i : ℕ) (x : X) → slice_get xs i ≡ Some x → drop i xs ≡ x ∷ drop (suc i) xs
-drop_there [] i x e = absurd (none-some x e)
-drop_there (y ∷ ys) zero x e = ap (λ z. z ∷ ys) (same_Some y x e)
-drop_there (y ∷ ys) (suc i) x e = drop_there ys i x e
-
-pub drop_past : {X : Type 0} (xs : List X) (i : ℕ) → length xs ≤ i → drop i xs ≡ []
-drop_past [] zero h = refl
-drop_past [] (suc i) h = refl
-drop_past (y ∷ ys) zero h = absurd (omega (arith, h))
-drop_past (y ∷ ys) (suc i) h = drop_past ys i (omega (arith, h))
-
-last_split : {X : Type 0} (xs : List X) (last : ℕ) (d : X) → length xs ≡ suc last → xs ≡ take last xs ++ get_or xs last d ∷ []
-last_split [] last d e = absurd (omega (arith, e))
-last_split (x ∷ []) zero d e = refl
-last_split (x ∷ y ∷ xs) zero d e = absurd (omega (arith, e))
-last_split (x ∷ xs) (suc last) d e = ap (λ l. x ∷ l) (last_split xs last d (omega (arith, e)))
-
-set_last : {X : Type 0} (xs : List X) (last : ℕ) (new : X) → length xs ≡ suc last → set xs last new ≡ take last xs ++ new ∷ []
-set_last [] last new e = absurd (omega (arith, e))
-set_last (x ∷ []) zero new e = refl
-set_last (x ∷ y ∷ xs) zero new e = absurd (omega (arith, e))
-set_last (x ∷ xs) (suc last) new e = ap (λ l. x ∷ l) (set_last xs last new (omega (arith, e)))
-
-take_set_last : {X : Type 0} (xs : List X) (last : ℕ) (new : X) → take last (set xs last new) ≡ take last xs
-take_set_last [] zero new = refl
-take_set_last [] (suc last) new = refl
-take_set_last (x ∷ xs) zero new = refl
-take_set_last (x ∷ xs) (suc last) new = ap (λ l. x ∷ l) (take_set_last xs last new)
-
 -- ---- families
-
-waiting_in_last : {C : Type 0} (ops : ℕ) (families : List (Family C)) (family : Family C) → waiting_in ops (families ++ family ∷ []) ≡ waiting ops family ++ waiting_in ops families
-waiting_in_last {C} ops [] family = sym (append-nil (waiting ops family))
-waiting_in_last {C} ops (other ∷ families) family =
-    ap (λ (l : List Program). l ++ waiting ops other) (waiting_in_last ops families family)
-    ∙ append_assoc (waiting ops family) (waiting_in ops families) (waiting ops other)
-
--- a family whose children all wait
-pub all_children : {C : Type 0} (ops : ℕ) (families : List (Family C)) (family : Family C) → family.rank ≡ 0 → waiting_in ops (families ++ family ∷ []) ≡ child_programs ops family.parent family.line ++ waiting_in ops families
-all_children {C} ops families family first =
-    waiting_in_last ops families family ∙ ap (λ (rank : ℕ). drop rank (child_programs ops family.parent family.line) ++ waiting_in ops families) first
 
 -- the last family, once its next child is taken
 pub record IsAfter {C : Type 0} (ops : ℕ) (family after : Family C) (child : Program) : Type 0 where
@@ -81,30 +29,52 @@ pub record IsAfter {C : Type 0} (ops : ℕ) (family after : Family C) (child : P
 
 waiting_next : {C : Type 0} (ops : ℕ) (family after : Family C) (child : Program) → IsAfter ops family after child → waiting ops family ≡ child ∷ waiting ops after
 waiting_next {C} ops family after child next =
-    let rank : suc family.rank ≡ after.rank = omega (arith, next.rank) in
-    drop_there (child_programs ops family.parent family.line) family.rank child next.here
-    ∙ ap (λ (n : ℕ). child ∷ drop n (child_programs ops family.parent family.line)) rank
+    left_from (child_programs ops family.parent family.line) family.rank child next.here
+    ∙ ap (λ (n : ℕ). child ∷ drop n (child_programs ops family.parent family.line)) (sym next.rank)
     ∙ ap (λ (q : Program). child ∷ drop after.rank (child_programs ops q family.line)) (sym next.parent)
     ∙ ap (λ (n : ℕ). child ∷ drop after.rank (child_programs ops after.parent n)) (sym next.line)
 
-pub taken : {C : Type 0} (ops last : ℕ) (families : List (Family C)) (family after : Family C) (child : Program) → length families ≡ last + 1 → get_or families last family ≡ family → IsAfter ops family after child
+taken : {C : Type 0} (ops last : ℕ) (families : List (Family C)) (family after : Family C) (child : Program) → length families ≡ last + 1 → get_or families last family ≡ family → IsAfter ops family after child
     → waiting_in ops families ≡ child ∷ waiting_in ops (set families last after)
-taken {C} ops last families family after child size here next =
-    let count : length families ≡ suc last = omega (arith, size) in
-    ap (waiting_in ops) (last_split families last family count ∙ ap (λ (f : Family C). take last families ++ f ∷ []) here)
-    ∙ waiting_in_last ops (take last families) family
-    ∙ ap (λ (l : List Program). l ++ waiting_in ops (take last families)) (waiting_next ops family after child next)
-    ∙ ap (λ (l : List Program). child ∷ l) (sym (ap (waiting_in ops) (set_last families last after count) ∙ waiting_in_last ops (take last families) after))
+taken ops last families family after child size here next = without_first (waiting ops) last families family after child size here (waiting_next ops family after child next)
 
--- the last family has no child left
-pub taken_last : {C : Type 0} (ops last : ℕ) (families : List (Family C)) (after : Family C) → length families ≡ last + 1 → length (child_programs ops after.parent after.line) ≤ after.rank
-    → waiting_in ops (set families last after) ≡ waiting_in ops (take last (set families last after))
-taken_last {C} ops last families after size done =
-    let count : length families ≡ suc last = omega (arith, size) in
-    ap (waiting_in ops) (set_last families last after count)
-    ∙ waiting_in_last ops (take last families) after
-    ∙ ap (λ (l : List Program). l ++ waiting_in ops (take last families)) (drop_past (child_programs ops after.parent after.line) after.rank done)
-    ∙ ap (waiting_in ops) (sym (take_set_last families last after))
+-- ---- the child of a family's rank
+
+below_tested : (n count other : ℕ) → count ≡ other → IsTrue (nat_lt n count) → n < other
+below_tested n count other same h = grind (arith, nat_tests)
+
+tested_below : (n count other : ℕ) → count ≡ other → n < other → IsTrue (nat_lt n count)
+tested_below n count other same h = grind (arith, nat_tests)
+
+module _ {C : Type 0} (m : Semantics C) (belongs : ℕ → C → Type 0) (family : Family C) (h : IsOpenFamily m belongs family) (ops lines : ℕ) (same_ops : ops ≡ m.ops) (count : lines ≡ length family.parent) where
+  -- the line and the rank are there
+  pub line_within : family.line < lines
+  line_within = let within = h.here.within in omega (arith, count, within)
+
+  pub rank_within : family.rank < length (alphabet ops lines family.line)
+  rank_within = let left = h.left in rw (same_ops, count) (omega (arith, left, count_children m.ops family.parent family.line))
+
+  module _ (instr : Instr) (copied child : Program) (ranked : slice_get (alphabet ops lines family.line) family.rank ≡ Some instr) (copy : copied ≡ family.parent) (defined : child ≡ with_line copied family.line instr) where
+    ranked_there : slice_get (alphabet m.ops (length family.parent) family.line) family.rank ≡ Some instr
+    ranked_there = rw (← same_ops, ← count) ranked
+
+    is_child : with_line family.parent family.line instr ≡ child
+    is_child = ap (λ (q : Program). with_line q family.line instr) (sym copy) ∙ sym defined
+
+    -- with the instruction of the rank the parent is the child
+    pub child_of_rank : slice_get (child_programs m.ops family.parent family.line) family.rank ≡ Some child
+    child_of_rank = child_at m.ops (length family.parent) family.parent family.line family.rank instr refl ranked_there ∙ ap Some is_child
+
+    pub child_is_partial : IsPartial m.ops child
+    child_is_partial =
+        let fits = contains_at (alphabet m.ops (length family.parent) family.line) family.rank instr ranked_there in
+        subst (IsPartial m.ops) is_child (partial_with_line m.ops family.parent family.line instr h.partial h.here fits)
+
+  -- a rank is tested by how many instructions there are
+  pub rank_tested : (rank children : ℕ) → children ≡ length (alphabet ops lines family.line) → IsTrue (nat_lt rank children) ↔ (rank < length (child_programs m.ops family.parent family.line))
+  rank_tested rank children size =
+      let same : children ≡ length (child_programs m.ops family.parent family.line) = size ∙ ap (λ (n : ℕ). length (alphabet n lines family.line)) same_ops ∙ ap (λ (n : ℕ). length (alphabet m.ops n family.line)) count ∙ sym (count_children m.ops family.parent family.line) in
+      (below_tested rank children (length (child_programs m.ops family.parent family.line)) same, tested_below rank children (length (child_programs m.ops family.parent family.line)) same)
 
 -- ---- the pending programs, before others
 
@@ -141,7 +111,7 @@ pub next_was_last : {C : Type 0} (ops last : ℕ) (families rest : List (Family 
 next_was_last {C} ops last families rest others family after size here left parent line rank done is_rest =
     let none : length (child_programs ops after.parent after.line) ≤ after.rank = rw (parent, line) (omega (arith, done)) in
     ap (λ (l : List (Family C)). waiting_in ops l ++ others) (sym is_rest)
-    ∙ ap (λ (l : List Program). l ++ others) (sym (taken_last ops last families after size none))
+    ∙ ap (λ (l : List Program). l ++ others) (sym (without_empty (waiting ops) last families after size (drop_all after.rank (child_programs ops after.parent after.line) none)))
     ∙ next_is_past ops last families others family after size here left parent line rank
 
 -- where there is none, the root is
@@ -177,7 +147,7 @@ pub split_pending : {C : Type 0} (ops : ℕ) (families now : List (Family C)) (o
     → waiting_in ops now ++ others ≡ child_programs ops parent line ++ (waiting_in ops families ++ others)
 split_pending {C} ops families now others family parent line parent_is line_is first pushed =
     ap (λ (l : List (Family C)). waiting_in ops l ++ others) pushed
-    ∙ ap (λ (l : List Program). l ++ others) (all_children ops families family first)
+    ∙ ap (λ (l : List Program). l ++ others) (one_more (waiting ops) families family ∙ ap (λ (rank : ℕ). drop rank (child_programs ops family.parent family.line) ++ waiting_in ops families) first)
     ∙ append_assoc (child_programs ops family.parent family.line) (waiting_in ops families) others
     ∙ ap (λ (q : Program). child_programs ops q family.line ++ (waiting_in ops families ++ others)) parent_is
     ∙ ap (λ (n : ℕ). child_programs ops parent n ++ (waiting_in ops families ++ others)) line_is
@@ -190,8 +160,7 @@ next_extends m belongs last families others family q size here h next =
     let instr = get_or instrs family.rank End in
     let left = h.left in
     let within : family.rank < length instrs = omega (arith, left, count_children m.ops family.parent family.line) in
-    let child : slice_get (child_programs m.ops family.parent family.line) family.rank ≡ Some (with_line family.parent family.line instr) =
-    slice_get-map (with_line family.parent family.line) instrs family.rank ∙ ap (option_map (with_line family.parent family.line)) (slice_get-get_or instrs family.rank End within) in
+    let child = child_at m.ops (length family.parent) family.parent family.line family.rank instr refl (slice_get-get_or instrs family.rank End within) in
     let place : length families - 1 ≡ last = omega arith in
     let there : slice_get families (length families - 1) ≡ Some family = ap (slice_get families) place ∙ slice_get-get_or families last family (omega arith) ∙ ap Some here in
     let other = next_is_child m.ops families others family (with_line family.parent family.line instr) there child in
@@ -202,14 +171,8 @@ next_extends m belongs last families others family q size here h next =
 pub same_pending : {C : Type 0} (ops last : ℕ) (families : List (Family C)) (others : List Program) (family after : Family C) → length families ≡ last + 1 → get_or families last family ≡ family
     → after.parent ≡ family.parent → after.line ≡ family.line → after.rank ≡ family.rank → waiting_in ops (set families last after) ++ others ≡ waiting_in ops families ++ others
 same_pending {C} ops last families others family after size here parent line rank =
-    let count : length families ≡ suc last = omega (arith, size) in
     let same : waiting ops after ≡ waiting ops family =
     ap (λ (n : ℕ). drop n (child_programs ops after.parent after.line)) rank
     ∙ ap (λ (q : Program). drop family.rank (child_programs ops q after.line)) parent
     ∙ ap (λ (n : ℕ). drop family.rank (child_programs ops family.parent n)) line in
-    let whole : families ≡ take last families ++ family ∷ [] = last_split families last family count ∙ ap (λ (f : Family C). take last families ++ f ∷ []) here in
-    ap (λ (l : List Program). l ++ others)
-    (ap (waiting_in ops) (set_last families last after count)
-    ∙ waiting_in_last ops (take last families) after
-    ∙ ap (λ (l : List Program). l ++ waiting_in ops (take last families)) same
-    ∙ sym (ap (waiting_in ops) whole ∙ waiting_in_last ops (take last families) family))
+    ap (λ (l : List Program). l ++ others) (with_same (waiting ops) last families family after size here same)

@@ -2,7 +2,7 @@ ghost use Rattle.std.specs.Prelude.{◌≡◌, ◌+◌, ◌<◌, ◌↔◌, [], 
 ghost use Rattle.program_model.specs.Semantics.{Semantics};
 ghost use Rattle.program_model.specs.Program.{Extends, IsPartial};
 ghost use Rattle.refutation_tree.specs.Grammar.{child_programs};
-ghost use Rattle.refutation_check.specs.Inner.Walking.{IsOpenFamily, IsPlaceOf, NamesRun, Shows};
+ghost use Rattle.refutation_check.specs.Inner.Walking.{HasTrackAt, IsOpenFamily, NamesRun, Shows};
 
 use crate::track::Track;
 use flag_rules::OutOfMemory;
@@ -73,11 +73,8 @@ impl<C: Drop> Family<C> {
     ) -> Result<usize, OutOfMemory>
         requires instance { t < (M.semantics machine.now).instances }
         requires family { IsOpenFamily (M.semantics machine.now) (M.belongs machine.now) self.old }
-        ensures family { IfOk result (λ place. IsOpenFamily (M.semantics machine.now) (M.belongs machine.now) self.new) }
-        ensures parent { IfOk result (λ place. self.new.parent ≡ self.old.parent) }
-        ensures line { IfOk result (λ place. self.new.line ≡ self.old.line) }
-        ensures rank { IfOk result (λ place. self.new.rank ≡ self.old.rank) }
-        ensures place { IfOk result (λ place. IsPlaceOf self.new.tracks.items t place) }
+        ensures { IfOk result
+            (λ place. HasTrackAt (M.semantics machine.now) (M.belongs machine.now) t self.old self.new place) }
     {
         for place in 0..self.tracks.len() {
             if self.tracks[place].instance() == t {

@@ -1,7 +1,7 @@
 ghost use Rattle.std.specs.Prelude.{◌≡◌, ◌<◌, ◌≤◌, ◌↔◌, [], ◌∷◌, IsTrue, IfOk, IfSome, IfNone, drop};
 ghost use Rattle.program_model.specs.Semantics.{Semantics};
 ghost use Rattle.program_model.specs.Program.{IsPartial, empty};
-ghost use Rattle.refutation_check.specs.Inner.Walking.{IsNext, IsWalk, NamesRun, Shows, Stands, Takes, pending};
+ghost use Rattle.refutation_check.specs.Inner.Walking.{IsNext, IsSameWalk, IsWalk, NamesRun, Shows, Stands, Takes, pending};
 
 use crate::family::Family;
 use crate::mark::{is_in_range, splits_open};
@@ -99,10 +99,8 @@ impl<C: Drop> Walk<C> {
         requires partial { IsPartial (M.semantics machine.now).ops program.now }
         requires next { IsNext (M.semantics machine.now).ops self.old program.now }
         requires names { NamesRun (M.semantics machine.now).instances t mark }
-        ensures walk { IfOk result (λ refutes. IsWalk (M.semantics machine.now) (M.belongs machine.now) self.new) }
-        ensures covering { IfOk result (λ refutes. self.new.covering ≡ self.old.covering) }
-        ensures pending { IfOk result (λ refutes. let ops = (M.semantics machine.now).ops in
-            pending ops self.new ≡ pending ops self.old) }
+        ensures same { IfOk result
+            (λ refutes. IsSameWalk (M.semantics machine.now) (M.belongs machine.now) self.old self.new) }
         ensures refutes { IfOk result (λ refutes. IsTrue refutes ↔ Shows (M.semantics machine.now) program.now mark) }
     {
         if self.families.is_empty() {
@@ -127,10 +125,8 @@ impl<C: Drop> Walk<C> {
         requires walk { IsWalk (M.semantics machine.now) (M.belongs machine.now) self.old }
         requires partial { IsPartial (M.semantics machine.now).ops program.now }
         requires next { IsNext (M.semantics machine.now).ops self.old program.now }
-        ensures walk { IfOk result (λ stands. IsWalk (M.semantics machine.now) (M.belongs machine.now) self.new) }
-        ensures covering { IfOk result (λ stands. self.new.covering ≡ self.old.covering) }
-        ensures pending { IfOk result (λ stands. let ops = (M.semantics machine.now).ops in
-            pending ops self.new ≡ pending ops self.old) }
+        ensures same { IfOk result
+            (λ stands. IsSameWalk (M.semantics machine.now) (M.belongs machine.now) self.old self.new) }
         ensures stands { IfOk result (λ stands. IsTrue stands
             ↔ Stands (M.semantics machine.now) self.old.covering program.now mark) }
     {

@@ -1,3 +1,4 @@
 pub mod Lists
+pub mod Children
 pub mod Covering
 pub mod Holding

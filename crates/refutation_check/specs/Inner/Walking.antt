@@ -1,6 +1,6 @@
 -- What is asked of the marks of a tree, one after another: of each, that it is of the grammar, and where the tree has to
 -- cover, that it shows what it says.
-use Rattle.std.specs.Prelude.{◌≡◌, ℕ, ◌<◌, ◌≤◌, ◌↔◌, IsTrue, Bool, List, [], ◌∷◌, ◌++◌, All, length, drop, slice_index_or, option_to_list}
+use Rattle.std.specs.Prelude.{◌≡◌, ℕ, ◌<◌, ◌≤◌, ◌↔◌, IsTrue, Bool, List, [], ◌∷◌, ◌++◌, All, length, drop, reverse, flat_map, slice_index_or, option_to_list}
 use Rattle.program_model.specs.Semantics.{Semantics}
 use Rattle.program_model.specs.Program.{Program, IsOpen, IsPartial}
 use Rattle.program_model.specs.Run.{Unmet, Loops}
@@ -72,8 +72,7 @@ waiting ops family = drop family.rank (child_programs ops family.parent family.l
 
 -- those of several families, of which the last comes first
 abbrev pub waiting_in : {C : Type 0} → ℕ → List (Family C) → List Program
-waiting_in ops [] = []
-waiting_in ops (family ∷ later) = waiting_in ops later ++ waiting ops family
+waiting_in ops families = flat_map (waiting ops) (reverse families)
 
 -- a family that was split at an undefined line, and has a child left; its tracks are the parent's
 pub record IsOpenFamily {C : Type 0} (m : Semantics C) (belongs : ℕ → C → Type 0) (family : Family C) : Type 0 where
@@ -82,10 +81,14 @@ pub record IsOpenFamily {C : Type 0} (m : Semantics C) (belongs : ℕ → C → 
   pub left : family.rank < length (child_programs m.ops family.parent family.line)
   pub tracks : All (IsTrack m belongs family.parent) family.tracks.items
 
--- the place has the track on an instance
-pub record IsPlaceOf {C : Type 0} (tracks : List (Track C)) (t place : ℕ) : Type 0 where
-  pub within : place < length tracks
-  pub instance : (d : Track C) → (slice_index_or tracks place d).t ≡ t
+-- the family has the track on an instance at a place, and is else as it was
+pub record HasTrackAt {C : Type 0} (m : Semantics C) (belongs : ℕ → C → Type 0) (t : ℕ) (old new : Family C) (place : ℕ) : Type 0 where
+  pub family : IsOpenFamily m belongs new
+  pub parent : new.parent ≡ old.parent
+  pub line : new.line ≡ old.line
+  pub rank : new.rank ≡ old.rank
+  pub within : place < length new.tracks.items
+  pub instance : (d : Track C) → (slice_index_or new.tracks.items place d).t ≡ t
 
 -- the partial programs for which no mark came yet, the next one first
 abbrev pub pending : {C : Type 0} → ℕ → Walk C → List Program
@@ -100,6 +103,12 @@ pub record IsWalk {C : Type 0} (m : Semantics C) (belongs : ℕ → C → Type 0
   pub some : 0 < m.ops
   pub families : All (IsOpenFamily m belongs) walk.families.items
   pub root : All (IsPartial m.ops) (option_to_list walk.root)
+
+-- the walk is where it was
+pub record IsSameWalk {C : Type 0} (m : Semantics C) (belongs : ℕ → C → Type 0) (old new : Walk C) : Type 0 where
+  pub walk : IsWalk m belongs new
+  pub covering : new.covering ≡ old.covering
+  pub still : pending m.ops new ≡ pending m.ops old
 
 -- after a mark the walk has taken it, if it stands: what is asked of a mark and those after it is that, and what is asked then
 -- of those after it

@@ -5,7 +5,7 @@ use Rattle.refutation_check.proofs.family.Family.refutes.Goals as goal
 
 pub refutes-requires-clause-track : goal.refutes-requires-clause-track
 refutes-requires-clause-track g c =
-    let here = c.in_ok-place.ensures.family.tracks c.in_ok-place.place c.index_mut-track.result.now c.in_ok-place.ensures.place.within in
+    let here = c.in_ok-place.ensures.family.tracks c.in_ok-place.place c.index_mut-track.result.now c.in_ok-place.ensures.within in
     subst (IsTrack (g.M.Machine.semantics c.args.machine.now) (g.M.Machine.belongs c.args.machine.now) c.place_of.new.self.parent) (sym c.index_mut-track.ensures.value) here
 
 pub returns-clause-family : goal.returns-clause-family

@@ -1,4 +1,4 @@
-use Rattle.std.proofs.Common.{◌≡◌, ◌+◌, ◌-◌, ◌<◌, length, get_or, rules, sym, subst, arith}
+use Rattle.std.proofs.Common.{◌≡◌, ◌+◌, ◌-◌, ◌<◌, length, get_or, rules, refl, sym, subst, arith}
 use Rattle.std.specs.Prelude.{option_to_list}
 use Rattle.std.proofs.lemmas.Bool.Decides.{nat_tests}
 use Rattle.std.proofs.lemmas.List.Elements.{All-set}
@@ -20,19 +20,8 @@ refutes-requires-2-clause-extends g c =
     let open_family : IsOpenFamily m belongs family = subst (IsOpenFamily m belongs) here (c.requires.walk.families last family (omega (arith, some, count))) in
     next_extends m belongs last walk.families.items (option_to_list walk.root) family c.args.program.now size here open_family c.requires.next
 
-pub returns-clause-walk : goal.returns-clause-walk
-returns-clause-walk g c =
-    let m = g.M.Machine.semantics c.args.machine.now in
-    let belongs = g.M.Machine.belongs c.args.machine.now in
-    let walk = c.args.self.now in
-    record {
-      some = c.requires.walk.some;
-      families = All-set (IsOpenFamily m belongs) walk.families.items (c.len-last.result - 1) c.refutes-2.new.self c.in_ok-refutes.ensures.family c.requires.walk.families;
-      root = c.requires.walk.root;
-    }
-
-pub returns-clause-pending : goal.returns-clause-pending
-returns-clause-pending g c =
+pub returns-clause-same : goal.returns-clause-same
+returns-clause-same g c =
     let m = g.M.Machine.semantics c.args.machine.now in
     let belongs = g.M.Machine.belongs c.args.machine.now in
     let walk = c.args.self.now in
@@ -42,4 +31,12 @@ returns-clause-pending g c =
     let size : length walk.families.items ≡ last + 1 = omega (arith, some, count) in
     let family = c.index_mut-family.result.now in
     let here : get_or walk.families.items last family ≡ family = sym c.index_mut-family.ensures.value in
-    same_pending m.ops last walk.families.items (option_to_list walk.root) family c.refutes-2.new.self size here c.in_ok-refutes.ensures.parent c.in_ok-refutes.ensures.line c.in_ok-refutes.ensures.rank
+    record {
+      walk = record {
+        some = c.requires.walk.some;
+        families = All-set (IsOpenFamily m belongs) walk.families.items last c.refutes-2.new.self c.in_ok-refutes.ensures.family c.requires.walk.families;
+        root = c.requires.walk.root;
+      };
+      covering = refl;
+      still = same_pending m.ops last walk.families.items (option_to_list walk.root) family c.refutes-2.new.self size here c.in_ok-refutes.ensures.parent c.in_ok-refutes.ensures.line c.in_ok-refutes.ensures.rank;
+    }

@@ -31,8 +31,8 @@ returns-in_ok-push-clause-takes g c = λ ms.
     let walk = c.go_past_next.new.self in
     let qs = pending m.ops c.args.self.now in
     let stands : Stands m c.args.self.now.covering q c.args.mark = c.in_ok-stands.ensures.stands.0 c.if-not-branch.false in
-    let covering = c.go_past_next.ensures.covering ∙ c.in_ok-stands.ensures.covering in
-    let past : pending m.ops walk ≡ drop 1 qs = c.go_past_next.ensures.pending ∙ ap (λ (l : List Program). drop 1 l) c.in_ok-stands.ensures.pending in
+    let covering = c.go_past_next.ensures.covering ∙ c.in_ok-stands.ensures.same.covering in
+    let past : pending m.ops walk ≡ drop 1 qs = c.go_past_next.ensures.pending ∙ ap (λ (l : List Program). drop 1 l) c.in_ok-stands.ensures.same.still in
     let split = split_pending m.ops walk.families.items c.push.new.self.items (option_to_list walk.root) c.new.result q c.in-Split.line c.new.ensures.parent c.new.ensures.line c.new.ensures.rank c.in_ok-push.ensures.items in
     let left = split ∙ ap (λ (l : List Program). child_programs m.ops q c.in-Split.line ++ l) past ∙ ap (λ (mark : Mark). brought m.ops q mark ++ drop 1 qs) (sym c.in-Split.is) in
     mark_stood m c.args.self.now.covering walk.covering qs _ q c.args.mark ms c.in-Some.ensures.some.1 stands covering left
