@@ -1,5 +1,5 @@
 use flag_rules::{List, MAX_FILE_BYTES};
-use pddl_parser::{AtomText, ParseRefusal, Typed, Word, domain, problem};
+use pddl_parser::{AtomText, ParseRefusal, Typed, TypedWords, Word, domain, problem};
 use std::alloc::{AllocError, Global};
 
 /// Tells a word and its place.
@@ -18,7 +18,7 @@ fn tell_words(told: &mut String, words: &List<Word>) -> Result<(), AllocError> {
 }
 
 /// Tells the words of a typed list, each with its own type.
-fn tell_typed(told: &mut String, words: &List<Typed>) -> Result<(), AllocError> {
+fn tell_typed(told: &mut String, words: &TypedWords) -> Result<(), AllocError> {
     for typed in words.as_slice() {
         tell_word(told, &typed.word)?;
         if let Some(of) = &typed.of {

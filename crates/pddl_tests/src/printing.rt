@@ -2,7 +2,7 @@ ghost use Rattle.std.specs.Prelude.{◌≤◌, length};
 ghost use Rattle.flag_rules.specs.declared.file.TheConstants.{MAX_FILE_BYTES};
 
 use flag_rules::{List, MAX_FILE_BYTES, OutOfMemory, Text};
-use pddl_parser::{DomainText, ParseRefusal, SharedWord, Typed, Word, domain, problem};
+use pddl_parser::{DomainText, ParseRefusal, SharedWord, TypedWords, Word, domain, problem};
 use pddl_printer::{print_domain, print_problem};
 use std::alloc::Global;
 
@@ -59,21 +59,19 @@ fn word(alloc: Global, text: &[u8]) -> Result<Word, OutOfMemory> {
     })
 }
 
-fn constants(alloc: Global) -> Result<List<Typed>, OutOfMemory> {
-    let mut names = List::new(alloc);
-    names.push(Typed {
-        word: word(alloc, b"door")?,
-        of: None,
-    })?;
-    names.push(Typed {
-        word: word(alloc, b"lamp")?,
-        of: Some(SharedWord::new(alloc, word(alloc, b"light")?)?),
-    })?;
-    names.push(Typed {
-        word: word(alloc, b"hall")?,
-        of: None,
-    })?;
-    Ok(names)
+/// A list of one word.
+fn one(alloc: Global, text: &[u8]) -> Result<List<Word>, OutOfMemory> {
+    let mut words = List::new(alloc);
+    words.push(word(alloc, text)?)?;
+    Ok(words)
+}
+
+fn constants(alloc: Global) -> Result<TypedWords, OutOfMemory> {
+    let light = SharedWord::new(alloc, word(alloc, b"light")?)?;
+    TypedWords::new(alloc)
+        .with_group(one(alloc, b"door")?, &None)?
+        .with_group(one(alloc, b"lamp")?, &Some(light))?
+        .with_group(one(alloc, b"hall")?, &None)
 }
 
 #[test]
@@ -82,7 +80,7 @@ fn gives_a_word_the_type_object_before_a_typed_one(rt: HostRuntime) -> Result<()
     let text = DomainText {
         name: word(alloc, b"lights")?,
         requirements: List::new(alloc),
-        types: List::new(alloc),
+        types: TypedWords::new(alloc),
         constants: constants(alloc)?,
         predicates: List::new(alloc),
         actions: List::new(alloc),
