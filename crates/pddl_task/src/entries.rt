@@ -24,12 +24,13 @@ pub(crate) fn add_objects(
     requires { length types.now < 2 ^ 32 }
     ensures { OnOk result (entries.new ≡ entries.old ++ map (object_of types.now) list.now) }
 {
-    let numbers = numbers_of_types(alloc, types, list)?;
+    let of = numbers_of_types(alloc, types, list)?;
+    let numbers = of.as_slice();
     let items = list.as_slice();
     for (place, typed) in items.iter().enumerate() {
         entries.push(ObjectEntry {
             name: Text::of(alloc, typed.word.text.as_slice())?,
-            of: numbers.as_slice()[place],
+            of: numbers[place],
         })?;
     }
     Ok(())
@@ -161,17 +162,9 @@ fn lifted_at(
         lifted_of scope.now.heads params.now scope.now.constants atom.now) }
 {
     Ok(Lifted {
-        pred: predicate_number(&scope.heads, atom),
+        pred: scope.heads.small_number(atom.head.text.as_slice()),
         args: terms_of(alloc, params, &scope.constants, atom.args.as_slice())?,
     })
-}
-
-/// The number of the predicate of an atom, where predicates have these names.
-fn predicate_number(heads: &Names, atom: &AtomText) -> u32
-    requires { length heads.now < 2 ^ 32 }
-    ensures { result ≡ number_of heads.now atom.now.head.text }
-{
-    heads.number(atom.head.text.as_slice()) as u32
 }
 
 /// The arguments of an atom, where parameters and constants have these names.
@@ -236,7 +229,7 @@ fn fact_at(
     ensures { IfOk result (λ fact. fact ≡ fact_of heads.now objects.now atom.now) }
 {
     Ok(Fact {
-        pred: predicate_number(heads, atom),
+        pred: heads.small_number(atom.head.text.as_slice()),
         args: numbers_of(alloc, objects, atom.args.as_slice())?,
     })
 }

@@ -63,7 +63,7 @@ fn number_of_type(names: &Names, typed: &Typed) -> u32
     requires { length names.now < 2 ^ 32 }
     ensures { result ≡ type_number names.now typed.now }
 {
-    names.number(given_type(typed)) as u32
+    names.small_number(given_type(typed))
 }
 
 /// The numbers of the types that a typed list gives to its words.
@@ -94,7 +94,8 @@ fn next_number(names: &Names, list: &TypedWords, before: &[u32], place: usize) -
     let items = list.as_slice();
     let typed = &items[place];
     if list.repeats_type(place) {
-        return before[place - 1];
+        let last = place - 1;
+        return before[last];
     }
     number_of_type(names, typed)
 }

@@ -6,9 +6,9 @@ pub returns-then-repeats_type : goal.returns-then-repeats_type
 returns-then-repeats_type c =
     let list = c.args.list.now in
     let here = c.index-items-place.result in
-    let number = c.index-before.result in
+    let number = c.index-before-last.result in
     number_next c.args.names.now list c.args.place here c.args.before.now number c.requires.place c.index-items-place.is c.requires.before
-    (number_again list c.args.place here c.requires.place c.index-items-place.is (c.repeats_type.ensures c.if-repeats_type.true) c.args.names.now c.args.before.now number c.requires.before c.index-before.is)
+    (number_again list c.args.place here c.requires.place c.index-items-place.is (c.repeats_type.ensures c.if-repeats_type.true) c.args.names.now c.args.before.now number c.requires.before c.index-before-last.is)
 
 pub returns : goal.returns
 returns c =
