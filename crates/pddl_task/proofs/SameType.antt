@@ -1,5 +1,5 @@
 -- What is the same of words that have one type: its name, its number, and its fault.
-use Rattle.std.proofs.Common.{◌≡◌, ℕ, zero, suc, ◌<◌, ◌≤◌, ◌+◌, ◌-◌, List, [], ◌∷◌, ◌++◌, map, flat_map, take, length, get_or, true, ◌||◌, Option, unwrap_or, option_map, if◌then◌else◌, bytes_eq, sym, ap, subst, ◌∙◌, arith}
+use Rattle.std.proofs.Common.{◌≡◌, ℕ, zero, suc, ◌<◌, ◌≤◌, ◌+◌, ◌-◌, List, [], ◌∷◌, ◌++◌, map, flat_map, take, length, get_or, true, ◌||◌, Option, unwrap_or, option_map, if◌then◌else◌, bytes_eq, sym, ap, subst, ◌∙◌, inl, inr, ◌⊎◌, arith}
 use Rattle.std.specs.Prelude.{Any}
 use Rattle.std.proofs.lemmas.List.{map_more, get_or-map, get_or-take, get_or_default, length-take-le, length-map}
 use Rattle.std.proofs.lemmas.List.Folds.{list_any-append}
@@ -29,7 +29,7 @@ still_there name other names there = among_all name names (other ∷ []) ∙ lis
 
 -- the word before one that has its type
 module _ (list : List Typed) (place : ℕ) (here : Typed) (within : place < length list) (is : here ≡ get_or list place here) (like : IsLikeLast list place) where
-  last : Typed
+  abbrev last : Typed
   last = get_or list (place - 1) here
 
   last_of : last.of ≡ here.of
@@ -44,14 +44,15 @@ module _ (list : List Typed) (place : ℕ) (here : Typed) (within : place < leng
   last_within = let some = like.0 in omega (arith, some, length-take-le place list (omega (arith, within)))
 
   -- the number of its type is that of the type of the last
-  pub number_again : (names : List (List ℕ)) (before : List ℕ) (number : ℕ) → before ≡ map (type_number names) (take place list) → number ≡ get_or before (place - 1) number
-      → number ≡ type_number names here
-  number_again names before number are last_number =
-      last_number
-      ∙ ap (λ l. get_or l (place - 1) number) are
-      ∙ get_or-map (type_number names) (take place list) (place - 1) here number last_within
+  pub number_again : (names : List (List ℕ)) (before : List ℕ) → before ≡ map (type_number names) (take place list) → get_or before (place - 1) 0 ≡ type_number names here
+  number_again names before are =
+      ap (λ l. get_or l (place - 1) 0) are
+      ∙ get_or-map (type_number names) (take place list) (place - 1) here 0 last_within
       ∙ ap (type_number names) (sym (last_at here))
       ∙ ap (number_of names) (same_type last here last_of)
+
+  pub last_low : (names : List (List ℕ)) (before : List ℕ) → before ≡ map (type_number names) (take place list) → place - 1 < length before
+  last_low names before are = let long = ap length are ∙ length-map (take place list) (type_number names) in omega (arith, long, last_within)
 
   -- its type is among those that are mentioned before it
   pub mentioned_again : with_names (root ∷ []) (flat_map mentioned (take (place + 1) list)) ≡ with_name (with_names (root ∷ []) (flat_map mentioned (take place list))) here.word.text
@@ -84,11 +85,15 @@ pub numbers_long : (names : List (List ℕ)) (list : List Typed) (numbers : List
 numbers_long names list numbers are = ap length are ∙ length-map list (type_number names)
 
 -- the number at a place
-pub number_at : (names : List (List ℕ)) (list : List Typed) (place : ℕ) (here : Typed) (numbers : List ℕ) (number : ℕ) → place < length list → here ≡ get_or list place here
-    → numbers ≡ map (type_number names) list → number ≡ get_or numbers place number → number ≡ type_number names here
-number_at names list place here numbers number within is are is_number =
-    is_number ∙ ap (λ l. get_or l place number) are ∙ get_or-map (type_number names) list place here number within ∙ ap (type_number names) (sym is)
+pub number_at : (names : List (List ℕ)) (list : List Typed) (place : ℕ) (here : Typed) (numbers : List ℕ) → place < length list → here ≡ get_or list place here
+    → numbers ≡ map (type_number names) list → get_or numbers place 0 ≡ type_number names here
+number_at names list place here numbers within is are =
+    ap (λ l. get_or l place 0) are ∙ get_or-map (type_number names) list place here 0 within ∙ ap (type_number names) (sym is)
 
 -- the first fault of some words is that of the same words
 pub unknown_in : (types : List (List ℕ)) (list items : List Typed) (first : Option Fault) → items ≡ list → IsFirst (λ fault. Any (IsUnknownType types fault) list) first → IsFirst (λ fault. Any (IsUnknownType types fault) items) first
 unknown_in types list items first same is = subst (λ (l : List Typed). IsFirst (λ fault. Any (IsUnknownType types fault) l) first) (sym same) is
+
+-- the word at a place of the same words
+pub at_same : (list items : List Typed) (place : ℕ) (here : Typed) → here ≡ get_or items place here → items ≡ list → here ≡ get_or list place here
+at_same list items place here is same = is ∙ ap (λ (l : List Typed). get_or l place here) same

@@ -24,8 +24,8 @@ pub(crate) fn add_objects(
     requires { length types.now < 2 ^ 32 }
     ensures { OnOk result (entries.new ≡ entries.old ++ map (object_of types.now) list.now) }
 {
-    let of = numbers_of_types(alloc, types, list)?;
-    let numbers = of.as_slice();
+    let known = numbers_of_types(alloc, types, list)?;
+    let numbers = known.as_slice();
     let items = list.as_slice();
     for (place, typed) in items.iter().enumerate() {
         entries.push(ObjectEntry {

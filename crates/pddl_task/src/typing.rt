@@ -153,7 +153,8 @@ fn given_parents(
 {
     let mut parents = vec![in alloc; 0u32; names.len()]?;
     for place in (0..types.len()).rev() {
-        parents[names.number(types[place].word.text.as_slice())] = given[place];
+        let typed = &types[place];
+        parents[names.number(typed.word.text.as_slice())] = given[place];
     }
     Ok(parents)
 }
