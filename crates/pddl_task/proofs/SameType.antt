@@ -1,14 +1,16 @@
 -- What is the same of words that have one type: its name, its number, and its fault.
-use Rattle.std.proofs.Common.{◌≡◌, ℕ, zero, suc, ◌<◌, ◌≤◌, ◌+◌, ◌-◌, List, [], ◌∷◌, ◌++◌, map, flat_map, take, length, get_or, true, ◌||◌, Option, unwrap_or, option_map, if◌then◌else◌, bytes_eq, sym, ap, subst, ◌∙◌, inl, inr, ◌⊎◌, arith}
+use Rattle.std.proofs.Common.{◌≡◌, ℕ, zero, suc, ◌<◌, ◌≤◌, ◌+◌, ◌-◌, List, [], ◌∷◌, ◌++◌, map, flat_map, take, length, get_or, true, ◌||◌, Option, unwrap_or, option_map, if◌then◌else◌, bytes_eq, refl, sym, ap, subst, ◌∙◌, inl, inr, ◌⊎◌, arith}
 use Rattle.std.specs.Prelude.{Any}
 use Rattle.std.proofs.lemmas.List.{map_more, get_or-map, get_or-take, get_or_default, length-take-le, length-map}
 use Rattle.std.proofs.lemmas.List.Folds.{list_any-append}
 use Rattle.pddl_forms.specs.declared.texts.Typed.{Typed}
 use Rattle.pddl_forms.specs.SharedTypes.{IsLikeLast}
+use Rattle.ground_state.specs.declared.parts.ObjectEntry.{ObjectEntry}
 use Rattle.pddl_task.specs.declared.fault.Fault.{Fault}
 use Rattle.pddl_task.specs.Names.{with_name, with_names, is_among, number_of}
 use Rattle.pddl_task.specs.Types.{root, text_of, mentioned, type_of, type_names, type_number}
 use Rattle.pddl_task.specs.Faults.{IsFirst, IsUnknownType}
+use Rattle.pddl_task.specs.Parts.{object_of}
 use Rattle.pddl_task.proofs.Anys.{any_left, any_split, any_one}
 use Rattle.pddl_task.proofs.Among.{among_all}
 use Rattle.pddl_task.proofs.First.{first_same}
@@ -97,3 +99,10 @@ unknown_in types list items first same is = subst (λ (l : List Typed). IsFirst 
 -- the word at a place of the same words
 pub at_same : (list items : List Typed) (place : ℕ) (here : Typed) → here ≡ get_or items place here → items ≡ list → here ≡ get_or list place here
 at_same list items place here is same = is ∙ ap (λ (l : List Typed). get_or l place here) same
+
+-- an object of this name whose type has this number
+abbrev numbered : List ℕ → ℕ → ObjectEntry
+numbered name number = record { name = name; of = number }
+
+pub object_made : (types : List (List ℕ)) (here : Typed) (name : List ℕ) (number : ℕ) → name ≡ here.word.text → number ≡ type_number types here → numbered name number ≡ object_of types here
+object_made types here name number is_name is_number = ap (λ n. numbered n number) is_name ∙ ap (numbered here.word.text) is_number
