@@ -122,11 +122,7 @@ pub(crate) fn type_entries(
 }
 
 /// For each type the number of its parent, which for `object` is that of `object` itself.
-fn parent_numbers(
-    alloc: Global,
-    names: &Names,
-    types: &TypedWords,
-) -> Result<Vec<u32>, OutOfMemory>
+fn parent_numbers(alloc: Global, names: &Names, types: &TypedWords) -> Result<Vec<u32>, OutOfMemory>
     requires all { names.now ≡ type_names types.now }
     requires few { length names.now < 2 ^ 32 }
     ensures { IfOk result (λ parents. parents.items ≡
