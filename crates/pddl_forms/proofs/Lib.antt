@@ -4,6 +4,7 @@ pub mod ConjunctionRules
 pub mod Conjunctions
 pub mod Exact
 pub mod Fronts
+pub mod Groups
 pub mod ItemSteps
 pub mod OneLexeme
 pub mod Readers

@@ -1,4 +1,5 @@
 pub mod Lexemes
 pub mod Forms
+pub mod SharedTypes
 pub mod Offending
 pub mod Inner

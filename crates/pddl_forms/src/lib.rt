@@ -11,6 +11,7 @@ mod shared_word;
 mod stop;
 mod texts;
 mod typed_lists;
+mod typed_words;
 
 pub use cursor::{Cursor, Start};
 pub use formulas::{Terms, atom, effect, formula, split_changes};
@@ -19,3 +20,4 @@ pub use shared_word::SharedWord;
 pub use stop::{Stop, Why};
 pub use texts::{AtomChange, AtomText, Typed, Word};
 pub use typed_lists::typed_list;
+pub use typed_words::TypedWords;

@@ -7,11 +7,11 @@ ghost use Rattle.pddl_forms.specs.Inner.Reading.{Reads, comes_as};
 ghost use Rattle.pddl_parser.specs.Inner.Choosing.{any_may, choice_of};
 ghost use Rattle.pddl_parser.specs.Inner.SectionReading.{parameters_choice, precondition_choice, effect_choice, part_choices, parts, action};
 
-use crate::keys::{is_due, or_empty, why_no_key};
+use crate::keys::{is_due, or_empty, or_no_words, why_no_key};
 use crate::texts::ActionText;
 use flag_rules::{List, OutOfMemory};
 use pddl_forms::{
-    AtomChange, AtomText, Cursor, Stop, Terms, Typed, Word, effect, formula, split_changes,
+    AtomChange, AtomText, Cursor, Stop, Terms, TypedWords, Word, effect, formula, split_changes,
     typed_list,
 };
 use pddl_lexer::Kind;
@@ -21,7 +21,7 @@ use std::marker::Model;
 /// The parts of an action that stand already.
 #[derive(Debug, Drop)]
 struct ActionParts {
-    params: Option<List<Typed>>,
+    params: Option<TypedWords>,
     pre: Option<List<AtomText>>,
     changes: Option<List<AtomChange>>,
 }
@@ -142,7 +142,7 @@ fn action_of(alloc: Global, name: Word, parts: ActionParts) -> Result<ActionText
     let (add, del) = split_changes(alloc, or_empty(alloc, parts.changes))?;
     Ok(ActionText {
         name,
-        params: or_empty(alloc, parts.params),
+        params: or_no_words(alloc, parts.params),
         pre: or_empty(alloc, parts.pre),
         add,
         del,

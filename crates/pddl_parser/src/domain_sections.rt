@@ -10,11 +10,11 @@ ghost use Rattle.pddl_parser.specs.Inner.SectionReading.{predicate, action, put,
 
 use crate::actions::action;
 use crate::atom_lists::predicates;
-use crate::keys::{is_due, or_empty, why_no_key};
+use crate::keys::{is_due, or_empty, or_no_words, why_no_key};
 use crate::shared_parts::{opening, requirements};
 use crate::texts::{ActionText, DomainText, PredText};
 use flag_rules::List;
-use pddl_forms::{Cursor, Stop, Typed, Word, typed_list};
+use pddl_forms::{Cursor, Stop, TypedWords, Word, typed_list};
 use pddl_lexer::Kind;
 use std::alloc::Global;
 use std::marker::Model;
@@ -23,8 +23,8 @@ use std::marker::Model;
 #[derive(Debug, Drop)]
 struct DomainSections {
     requirements: Option<List<Word>>,
-    types: Option<List<Typed>>,
-    constants: Option<List<Typed>>,
+    types: Option<TypedWords>,
+    constants: Option<TypedWords>,
     predicates: Option<List<PredText>>,
     actions: List<ActionText>,
 }
@@ -194,8 +194,8 @@ fn domain_of(alloc: Global, name: Word, sections: DomainSections) -> DomainText
     DomainText {
         name,
         requirements: or_empty(alloc, sections.requirements),
-        types: or_empty(alloc, sections.types),
-        constants: or_empty(alloc, sections.constants),
+        types: or_no_words(alloc, sections.types),
+        constants: or_no_words(alloc, sections.constants),
         predicates: or_empty(alloc, sections.predicates),
         actions: sections.actions,
     }

@@ -7,7 +7,7 @@ ghost use Rattle.pddl_parser.specs.Inner.SectionReading.{is_none};
 ghost use Rattle.pddl_forms.specs.declared.stop.Why.TheVariants.{Shape, Unsupported};
 
 use flag_rules::List;
-use pddl_forms::{Cursor, Why};
+use pddl_forms::{Cursor, TypedWords, Why};
 use pddl_lexer::Kind;
 use std::alloc::Global;
 
@@ -35,4 +35,11 @@ pub(crate) fn or_empty<T: Drop>(alloc: Global, items: Option<List<T>>) -> List<T
     ensures { result ≡ or_empty items }
 {
     items.unwrap_or_else(|| List::new(alloc))
+}
+
+/// The words of a typed list, or none where it is absent.
+pub(crate) fn or_no_words(alloc: Global, words: Option<TypedWords>) -> TypedWords
+    ensures { result ≡ or_empty words }
+{
+    words.unwrap_or_else(|| TypedWords::new(alloc))
 }

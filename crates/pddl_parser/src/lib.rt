@@ -18,6 +18,6 @@ mod texts;
 
 pub use laws::{domain_is_spelled, one_domain_reply, one_problem_reply, problem_is_spelled};
 pub use parse::{domain, problem};
-pub use pddl_forms::{AtomText, SharedWord, Typed, Word};
+pub use pddl_forms::{AtomText, SharedWord, Typed, TypedWords, Word};
 pub use refusal::ParseRefusal;
 pub use texts::{ActionText, DomainText, PredText, ProblemText};

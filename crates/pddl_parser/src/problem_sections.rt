@@ -10,11 +10,11 @@ ghost use Rattle.pddl_parser.specs.Inner.Choosing.{requirement, any_may, choice_
 ghost use Rattle.pddl_parser.specs.Inner.SectionReading.{put, problem_choices, section_of, stand_needed, problem_sections, problem_of, problem};
 
 use crate::atom_lists::ground_atoms;
-use crate::keys::{is_due, or_empty, why_no_key};
+use crate::keys::{is_due, or_empty, or_no_words, why_no_key};
 use crate::shared_parts::{opening, requirements};
 use crate::texts::ProblemText;
 use flag_rules::{List, Text};
-use pddl_forms::{AtomText, Cursor, Stop, Terms, Typed, Why, Word, formula, typed_list};
+use pddl_forms::{AtomText, Cursor, Stop, Terms, TypedWords, Why, Word, formula, typed_list};
 use pddl_lexer::Kind;
 use std::alloc::Global;
 use std::marker::Model;
@@ -24,7 +24,7 @@ use std::marker::Model;
 struct ProblemSections {
     domain: Option<Word>,
     requirements: Option<List<Word>>,
-    objects: Option<List<Typed>>,
+    objects: Option<TypedWords>,
     init: Option<List<AtomText>>,
     goal: Option<List<AtomText>>,
 }
@@ -240,7 +240,7 @@ fn problem_of(alloc: Global, name: Word, sections: ProblemSections) -> ProblemTe
         name,
         domain: sections.domain.unwrap_or(no_word),
         requirements: or_empty(alloc, sections.requirements),
-        objects: or_empty(alloc, sections.objects),
+        objects: or_no_words(alloc, sections.objects),
         init: or_empty(alloc, sections.init),
         goal: or_empty(alloc, sections.goal),
     }

@@ -1,11 +1,11 @@
 use flag_rules::List;
-use pddl_forms::{AtomText, Typed, Word};
+use pddl_forms::{AtomText, TypedWords, Word};
 
 /// A predicate: its name, and its variables.
 #[derive(Debug, Drop)]
 pub struct PredText {
     pub head: Word,
-    pub params: List<Typed>,
+    pub params: TypedWords,
 }
 
 /// An action: its parameters, the atoms of its precondition, and the atoms that its effect adds and
@@ -13,7 +13,7 @@ pub struct PredText {
 #[derive(Debug, Drop)]
 pub struct ActionText {
     pub name: Word,
-    pub params: List<Typed>,
+    pub params: TypedWords,
     pub pre: List<AtomText>,
     pub add: List<AtomText>,
     pub del: List<AtomText>,
@@ -24,8 +24,8 @@ pub struct ActionText {
 pub struct DomainText {
     pub name: Word,
     pub requirements: List<Word>,
-    pub types: List<Typed>,
-    pub constants: List<Typed>,
+    pub types: TypedWords,
+    pub constants: TypedWords,
     pub predicates: List<PredText>,
     pub actions: List<ActionText>,
 }
@@ -37,7 +37,7 @@ pub struct ProblemText {
     pub name: Word,
     pub domain: Word,
     pub requirements: List<Word>,
-    pub objects: List<Typed>,
+    pub objects: TypedWords,
     pub init: List<AtomText>,
     pub goal: List<AtomText>,
 }

@@ -5,7 +5,7 @@ ghost use Rattle.pddl_printer.specs.Printing.{spaced, in_parentheses, section, t
 use crate::formulas::{atoms, effect, formula, predicate};
 use crate::words::{close, open, typed_list, word, words};
 use flag_rules::{List, OutOfMemory, Text};
-use pddl_parser::{ActionText, AtomText, DomainText, PredText, ProblemText, Typed, Word};
+use pddl_parser::{ActionText, AtomText, DomainText, PredText, ProblemText, TypedWords, Word};
 
 /// Adds a section of one word.
 #[tactic(auto, using(crate::proofs::Spaced::spacing))]
@@ -29,7 +29,7 @@ fn words_section(out: &mut Text, key: &[u8], values: &List<Word>) -> Result<(), 
 
 /// Adds a section that is a typed list.
 #[tactic(auto, using(crate::proofs::Spaced::spacing))]
-fn typed_section(out: &mut Text, key: &[u8], names: &List<Typed>) -> Result<(), OutOfMemory>
+fn typed_section(out: &mut Text, key: &[u8], names: &TypedWords) -> Result<(), OutOfMemory>
     ensures { OnOk result (out.new ≡ out.old ++ spaced (section key.now (typed_words names.now))) }
 {
     open(out, key)?;
@@ -59,7 +59,7 @@ fn predicates_section(out: &mut Text, all: &List<PredText>) -> Result<(), OutOfM
 
 /// Adds the parameters of an action.
 #[tactic(auto, using(crate::proofs::Spaced::spacing))]
-fn parameters(out: &mut Text, params: &List<Typed>) -> Result<(), OutOfMemory>
+fn parameters(out: &mut Text, params: &TypedWords) -> Result<(), OutOfMemory>
     ensures { OnOk result (out.new ≡ out.old ++ spaced (codes ":parameters" ∷ in_parentheses (typed_words params.now))) }
 {
     word(out, b":parameters")?;

@@ -3,7 +3,7 @@ ghost use Rattle.std.specs.List.{list_any};
 ghost use Rattle.pddl_printer.specs.Printing.{spaced, texts_of, has_type, type_words, typed_words};
 
 use flag_rules::{List, OutOfMemory, Text};
-use pddl_parser::{Typed, Word};
+use pddl_parser::{Typed, TypedWords, Word};
 
 /// Adds a word.
 pub(crate) fn word(out: &mut Text, word: &[u8]) -> Result<(), OutOfMemory>
@@ -72,7 +72,7 @@ fn typed_word(out: &mut Text, name: &Typed, is_typed_later: bool) -> Result<(), 
 }
 
 /// Adds a typed list.
-pub(crate) fn typed_list(out: &mut Text, names: &List<Typed>) -> Result<(), OutOfMemory>
+pub(crate) fn typed_list(out: &mut Text, names: &TypedWords) -> Result<(), OutOfMemory>
     ensures { OnOk result (out.new ≡ out.old ++ spaced (typed_words names.now)) }
 {
     let names = names.as_slice();

@@ -22,6 +22,7 @@ pub mod OneAnswer
 pub mod ParentNumbers
 pub mod Refusals
 pub mod Rootless
+pub mod SameType
 pub mod StillApart
 pub mod TaskFits
 pub mod TypeNames

@@ -1,7 +1,7 @@
 -- The names of the items of a list, where one more is added.
-use Rattle.std.proofs.Common.{◌≡◌, ℕ, ◌<◌, ◌+◌, take, get_or, length, Bool, true, false, not, List, [], ◌∷◌, ◌++◌, map, refl, sym, ap, ◌∙◌, bytes_eq, if◌then◌else◌}
+use Rattle.std.proofs.Common.{◌≡◌, ℕ, ◌<◌, ◌+◌, take, get_or, length, Bool, true, false, not, List, [], ◌∷◌, ◌++◌, map, refl, sym, ap, ◌∙◌, append_assoc, bytes_eq, if◌then◌else◌}
 use Rattle.std.specs.List.{list_any}
-use Rattle.std.proofs.lemmas.List.{take_more}
+use Rattle.std.proofs.lemmas.List.{take_more, map_more}
 use Rattle.std.proofs.lemmas.List.Sums.{fold-append}
 use Rattle.pddl_task.specs.Names.{with_name, with_names, is_among}
 use Rattle.pddl_task.proofs.Mapped.{any_mapped, map-append}
@@ -31,3 +31,13 @@ names_more f g start xs i x within is =
     ∙ ap (λ l. with_names start (map f l)) (map-append g (take i xs) (x ∷ []))
     ∙ ap (with_names start) (map-append f (map g (take i xs)) (g x ∷ []))
     ∙ fold-append with_name start (map f (map g (take i xs))) (f (g x) ∷ [])
+
+-- what is made of the items up to one more place
+pub one_made : {X Y : Type 0} (f : X → Y) (xs : List X) (i : ℕ) (x : X) (front done next : List Y) (y : Y) → i < length xs → x ≡ get_or xs i x → done ≡ front ++ map f (take i xs) → y ≡ f x → next ≡ done ++ y ∷ []
+    → next ≡ front ++ map f (take (i + 1) xs)
+one_made f xs i x front done next y within is are made pushed =
+    pushed
+    ∙ ap (λ l. l ++ y ∷ []) are
+    ∙ append_assoc front (map f (take i xs)) (y ∷ [])
+    ∙ ap (λ z. front ++ (map f (take i xs) ++ z ∷ [])) (made ∙ ap f is)
+    ∙ ap (λ l. front ++ l) (sym (map_more f xs i x within))

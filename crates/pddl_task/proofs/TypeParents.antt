@@ -58,6 +58,16 @@ word_there types k typed within is = mentioned_there types typed.word.text (from
         ap (λ b. b || (bytes_eq typed.word.text (type_of t) || is_among typed.word.text (flat_map mentioned rest))) (ap (λ (w : Typed). bytes_eq typed.word.text w.word.text) (sym same) ∙ itself typed.word.text)
     from (t ∷ rest) (suc i) less same = later (bytes_eq typed.word.text t.word.text) (bytes_eq typed.word.text (type_of t)) (is_among typed.word.text (flat_map mentioned rest)) (from rest i (omega (arith, less)) same)
 
+-- so is the parent of a word
+pub type_there : (types : List Typed) (k : ℕ) (typed : Typed) → k < length types → typed ≡ get_or types k typed → is_among (type_of typed) (type_names types) ≡ true
+type_there types k typed within is = mentioned_there types (type_of typed) (from types k within is)
+  where
+    from : (rest : List Typed) (i : ℕ) → i < length rest → typed ≡ get_or rest i typed → is_among (type_of typed) (flat_map mentioned rest) ≡ true
+    from [] i less same = absurd (omega (arith, less))
+    from (t ∷ rest) zero less same =
+        here (bytes_eq (type_of typed) t.word.text) (bytes_eq (type_of typed) (type_of t)) (is_among (type_of typed) (flat_map mentioned rest)) (ap (λ (w : Typed). bytes_eq (type_of typed) (type_of w)) (sym same) ∙ itself (type_of typed))
+    from (t ∷ rest) (suc i) less same = later (bytes_eq (type_of typed) t.word.text) (bytes_eq (type_of typed) (type_of t)) (is_among (type_of typed) (flat_map mentioned rest)) (from rest i (omega (arith, less)) same)
+
 -- a parent of `:types` is the name of a type
 pub given_there : (types : List Typed) (name : List ℕ) → is_among (given_parent types name) (type_names types) ≡ true
 given_there types name = elim (from types) [

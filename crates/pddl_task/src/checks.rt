@@ -11,7 +11,7 @@ use crate::cycles::first_cycle;
 use crate::fault::{Fault, FaultKind, earlier};
 use crate::names::Names;
 use crate::twice::first_twice;
-use crate::typing::TypeCheck;
+use crate::typing::{TypeCheck, first_unknown_type};
 use flag_rules::OutOfMemory;
 use ground_state::TypeEntry;
 use pddl_parser::{ActionText, DomainText, ProblemText};
@@ -37,7 +37,7 @@ pub(crate) fn domain_fault(
     let head_again = first_twice(alloc, Names::new(alloc), predicates)?;
     let action_again = first_twice(alloc, Names::new(alloc), actions)?;
     let cycle = first_cycle(alloc, types, entries, domain.types.as_slice())?;
-    let of_constants = first_of(&TypeCheck { types }, constants)?;
+    let of_constants = first_unknown_type(types, &domain.constants);
     let of_predicates = first_of(&TypeCheck { types }, predicates)?;
     let arities = Arities::of(alloc, predicates)?;
     let names = Names::of(alloc, constants)?;
@@ -70,7 +70,7 @@ impl Check<ActionText> for ActionCheck<'_> {
     fn first_fault(&self, action: &ActionText) -> Result<Option<Fault>, OutOfMemory> {
         let params = action.params.as_slice();
         let again = first_twice(self.alloc, Names::new(self.alloc), params)?;
-        let of_types = first_of(&TypeCheck { types: self.types }, params)?;
+        let of_types = first_unknown_type(self.types, &action.params);
         let names = Names::of(self.alloc, params)?;
         let atoms = AtomCheck {
             arities: self.arities,
@@ -98,7 +98,7 @@ pub(crate) fn problem_fault(
     let objects = problem.objects.as_slice();
     let seen = Names::of(alloc, domain.constants.as_slice())?;
     let again = first_twice(alloc, seen, objects)?;
-    let of_types = first_of(&TypeCheck { types }, objects)?;
+    let of_types = first_unknown_type(types, &problem.objects);
     let arities = Arities::of(alloc, domain.predicates.as_slice())?;
     let constants = Names::of(alloc, domain.constants.as_slice())?;
     let names = Names::of(alloc, objects)?;

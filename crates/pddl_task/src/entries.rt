@@ -8,10 +8,10 @@ ghost use Rattle.pddl_task.specs.Types.{names_of, type_number};
 ghost use Rattle.pddl_task.specs.Inner.Actions.{IsSchemaText};
 
 use crate::names::Names;
-use crate::typing::number_of_type;
+use crate::typing::numbers_of_types;
 use flag_rules::{List, OutOfMemory, Text};
 use ground_state::{Fact, Lifted, ObjectEntry, PredicateEntry, SchemaEntry, Term};
-use pddl_parser::{ActionText, AtomText, PredText, Typed, Word};
+use pddl_parser::{ActionText, AtomText, PredText, TypedWords, Word};
 use std::alloc::Global;
 
 /// Adds objects or constants, where types have these names.
@@ -19,15 +19,18 @@ pub(crate) fn add_objects(
     alloc: Global,
     types: &Names,
     entries: &mut List<ObjectEntry>,
-    items: &[Typed],
+    list: &TypedWords,
 ) -> Result<(), OutOfMemory>
     requires { length types.now < 2 ^ 32 }
-    ensures { OnOk result (entries.new ≡ entries.old ++ map (object_of types.now) items.now) }
+    ensures { OnOk result (entries.new ≡ entries.old ++ map (object_of types.now) list.now) }
 {
-    for typed in items {
+    let known = numbers_of_types(alloc, types, list)?;
+    let numbers = known.as_slice();
+    let items = list.as_slice();
+    for (place, typed) in items.iter().enumerate() {
         entries.push(ObjectEntry {
             name: Text::of(alloc, typed.word.text.as_slice())?,
-            of: number_of_type(types, typed),
+            of: numbers[place],
         })?;
     }
     Ok(())
@@ -112,7 +115,7 @@ fn schema_over(
         schema_of scope.now.types scope.now.heads scope.now.constants action.now) }
 {
     let name = Text::of(alloc, action.name.text.as_slice())?;
-    let types = types_of_all(alloc, &scope.types, action.params.as_slice())?;
+    let types = numbers_of_types(alloc, &scope.types, &action.params)?;
     let pre = lifted_atoms(alloc, scope, params, action.pre.as_slice())?;
     let add = lifted_atoms(alloc, scope, params, action.add.as_slice())?;
     let del = lifted_atoms(alloc, scope, params, action.del.as_slice())?;
@@ -123,18 +126,6 @@ fn schema_over(
         add,
         del,
     })
-}
-
-/// The numbers of the types of parameters.
-fn types_of_all(alloc: Global, types: &Names, params: &[Typed]) -> Result<List<u32>, OutOfMemory>
-    requires { length types.now < 2 ^ 32 }
-    ensures { IfOk result (λ numbers. numbers ≡ map (type_number types.now) params.now) }
-{
-    let mut numbers = List::new(alloc);
-    for typed in params {
-        numbers.push(number_of_type(types, typed))?;
-    }
-    Ok(numbers)
 }
 
 /// The atoms of an action whose parameters have these names.
@@ -171,17 +162,9 @@ fn lifted_at(
         lifted_of scope.now.heads params.now scope.now.constants atom.now) }
 {
     Ok(Lifted {
-        pred: predicate_number(&scope.heads, atom),
+        pred: scope.heads.small_number(atom.head.text.as_slice()),
         args: terms_of(alloc, params, &scope.constants, atom.args.as_slice())?,
     })
-}
-
-/// The number of the predicate of an atom, where predicates have these names.
-fn predicate_number(heads: &Names, atom: &AtomText) -> u32
-    requires { length heads.now < 2 ^ 32 }
-    ensures { result ≡ number_of heads.now atom.now.head.text }
-{
-    heads.number(atom.head.text.as_slice()) as u32
 }
 
 /// The arguments of an atom, where parameters and constants have these names.
@@ -246,7 +229,7 @@ fn fact_at(
     ensures { IfOk result (λ fact. fact ≡ fact_of heads.now objects.now atom.now) }
 {
     Ok(Fact {
-        pred: predicate_number(heads, atom),
+        pred: heads.small_number(atom.head.text.as_slice()),
         args: numbers_of(alloc, objects, atom.args.as_slice())?,
     })
 }

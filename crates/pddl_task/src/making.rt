@@ -25,8 +25,8 @@ pub fn task(alloc: Global, text: &DomainText) -> Result<Task, TaskRefusal>
     requires { IsDomainText text.now }
     ensures { IsTaskReply text.now result }
 {
-    let types = names_of_types(alloc, text.types.as_slice())?;
-    let entries = type_entries(alloc, &types, text.types.as_slice())?;
+    let types = names_of_types(alloc, &text.types)?;
+    let entries = type_entries(alloc, &types, &text.types)?;
     if let Some(fault) = domain_fault(alloc, &types, entries.as_slice(), text)? {
         return Err(fault.into());
     }
@@ -87,7 +87,7 @@ fn constants_of(
     ensures { IfOk result (λ constants. constants ≡ map (object_of types.now) domain.now.constants) }
 {
     let mut constants = List::new(alloc);
-    add_objects(alloc, types, &mut constants, domain.constants.as_slice())?;
+    add_objects(alloc, types, &mut constants, &domain.constants)?;
     Ok(constants)
 }
 
@@ -107,7 +107,7 @@ pub fn instance(
     ensures reply { IsInstanceReply domain.now text.now result }
     ensures fits { IfOk result (IsInstance task.now) }
 {
-    let types = names_of_types(alloc, domain.types.as_slice())?;
+    let types = names_of_types(alloc, &domain.types)?;
     if let Some(fault) = problem_fault(alloc, &types, domain, text)? {
         return Err(fault.into());
     }
@@ -166,7 +166,7 @@ fn objects_of(
         map (object_of types.now) (domain.now.constants ++ problem.now.objects)) }
 {
     let mut objects = constants_of(alloc, types, domain)?;
-    add_objects(alloc, types, &mut objects, problem.objects.as_slice())?;
+    add_objects(alloc, types, &mut objects, &problem.objects)?;
     Ok(objects)
 }
 

@@ -1,4 +1,4 @@
-ghost use Rattle.std.specs.Prelude.{◌≡◌, [], ◌<◌, not, length, map, get_or, OnOk, IfOk};
+ghost use Rattle.std.specs.Prelude.{◌≡◌, [], ◌<◌, ◌^◌, not, length, map, get_or, OnOk, IfOk};
 ghost use Rattle.pddl_task.specs.Names.{with_name, with_names, number_of, is_among};
 ghost use Rattle.pddl_task.specs.Types.{text_of};
 ghost use Rattle.pddl_task.specs.Inner.Names.{place_among, different};
@@ -79,6 +79,14 @@ impl Names {
         ensures { result ≡ number_of self.now name.now }
     {
         self.find(name).unwrap_or(self.len())
+    }
+
+    /// The same number in 32 bits, where there are not too many names.
+    pub(crate) fn small_number(&self, name: &[u8]) -> u32
+        requires { length self.now < 2 ^ 32 }
+        ensures { result ≡ number_of self.now name.now }
+    {
+        self.number(name) as u32
     }
 
     /// Whether a name is there.

@@ -3,7 +3,7 @@
 use crate::checks::check_text;
 use crate::texts::{DOMAIN, domain_text, problem_text};
 use flag_rules::List;
-use pddl_parser::{ActionText, AtomText, DomainText, PredText, ProblemText, Typed, Word};
+use pddl_parser::{ActionText, AtomText, DomainText, PredText, ProblemText, Typed, TypedWords, Word};
 use std::alloc::{AllocError, Global};
 use std::test::Fail;
 
@@ -37,7 +37,7 @@ fn tell_type(told: &mut String, of: &Word) -> Result<(), AllocError> {
 }
 
 /// Tells the words of a typed list, each with its own type.
-fn tell_typed_list(told: &mut String, words: &List<Typed>) -> Result<(), AllocError> {
+fn tell_typed_list(told: &mut String, words: &TypedWords) -> Result<(), AllocError> {
     for typed in words.as_slice() {
         tell_typed(told, typed)?;
     }

@@ -1,7 +1,7 @@
 use crate::checks::check_bytes;
 use crate::texts::{domain_text, problem_text};
 use flag_rules::{List, OutOfMemory, Text};
-use pddl_parser::{DomainText, SharedWord, Typed, Word};
+use pddl_parser::{DomainText, SharedWord, TypedWords, Word};
 use pddl_printer::{print_domain, print_problem};
 use std::alloc::Global;
 use std::process::Abort;
@@ -56,33 +56,39 @@ fn shared_word(alloc: Global, text: &[u8]) -> Result<SharedWord, OutOfMemory> {
     SharedWord::new(alloc, word(alloc, text)?)
 }
 
-fn untyped(alloc: Global, name: &[u8]) -> Result<Typed, OutOfMemory> {
-    Ok(Typed {
-        word: word(alloc, name)?,
-        of: None,
-    })
+/// A list of one word.
+fn one(alloc: Global, text: &[u8]) -> Result<List<Word>, OutOfMemory> {
+    let mut words = List::new(alloc);
+    words.push(word(alloc, text)?)?;
+    Ok(words)
 }
 
-fn typed(alloc: Global, name: &[u8], of: &[u8]) -> Result<Typed, OutOfMemory> {
+fn untyped(alloc: Global, before: TypedWords, name: &[u8]) -> Result<TypedWords, OutOfMemory> {
+    before.with_group(one(alloc, name)?, &None)
+}
+
+fn typed(
+    alloc: Global,
+    before: TypedWords,
+    name: &[u8],
+    of: &[u8],
+) -> Result<TypedWords, OutOfMemory> {
     let of = Some(shared_word(alloc, of)?);
-    Ok(Typed {
-        word: word(alloc, name)?,
-        of,
-    })
+    before.with_group(one(alloc, name)?, &of)
 }
 
-fn add_constants(alloc: Global, names: &mut List<Typed>) -> Result<(), OutOfMemory> {
-    names.push(untyped(alloc, b"door")?)?;
-    names.push(typed(alloc, b"lamp", b"light")?)?;
-    names.push(untyped(alloc, b"hall")?)
+fn constants(alloc: Global) -> Result<TypedWords, OutOfMemory> {
+    let door = untyped(alloc, TypedWords::new(alloc), b"door")?;
+    let lamp = typed(alloc, door, b"lamp", b"light")?;
+    untyped(alloc, lamp, b"hall")
 }
 
 /// A domain that has constants alone.
-fn domain_with(alloc: Global, name: Word, constants: List<Typed>) -> DomainText {
+fn domain_with(alloc: Global, name: Word, constants: TypedWords) -> DomainText {
     DomainText {
         name,
         requirements: List::new(alloc),
-        types: List::new(alloc),
+        types: TypedWords::new(alloc),
         constants,
         predicates: List::new(alloc),
         actions: List::new(alloc),
@@ -90,9 +96,7 @@ fn domain_with(alloc: Global, name: Word, constants: List<Typed>) -> DomainText 
 }
 
 fn constants_printed(alloc: Global) -> Result<Vec<u8>, OutOfMemory> {
-    let mut constants = List::new(alloc);
-    add_constants(alloc, &mut constants)?;
-    let text = domain_with(alloc, word(alloc, b"lights")?, constants);
+    let text = domain_with(alloc, word(alloc, b"lights")?, constants(alloc)?);
     print_domain(alloc, &text)
 }
 

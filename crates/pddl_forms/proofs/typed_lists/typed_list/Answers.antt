@@ -9,4 +9,4 @@ loop-alloc-preserved-in_ok-push c =
 
 pub returns : goal.returns
 returns c =
-    rw (c.in_ok-push_typed-2.ensures, c.pass.ensures.left) (sym c.loop-alloc.invariant ∙ right-next c.args.kind c.loop-alloc.done c.loop-alloc.waiting _ (sym c.is_at.ensures ∙ c.loop-alloc-test.false))
+    rw (c.in_ok-with_group.ensures, c.pass.ensures.left) (sym c.loop-alloc.invariant ∙ right-next c.args.kind c.loop-alloc.done c.loop-alloc.waiting _ (sym c.is_at.ensures ∙ c.loop-alloc-test.false))

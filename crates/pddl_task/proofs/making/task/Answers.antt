@@ -6,10 +6,10 @@ use Rattle.pddl_task.proofs.TaskFits.{task-fits}
 use Rattle.pddl_task.proofs.making.task.Goals as goal
 
 pub type_entries-requires-clause-few : goal.type_entries-requires-clause-few
-type_entries-requires-clause-few c = rw (c.in_ok-types.ensures, c.as_slice.ensures) (types_few c.args.text.now c.requires)
+type_entries-requires-clause-few c = rw c.in_ok-types.ensures (types_few c.args.text.now c.requires)
 
 pub domain_fault-requires-clause-few : goal.domain_fault-requires-clause-few
-domain_fault-requires-clause-few c = rw (c.in_ok-types.ensures, c.as_slice.ensures) (types_few c.args.text.now c.requires)
+domain_fault-requires-clause-few c = rw c.in_ok-types.ensures (types_few c.args.text.now c.requires)
 
 pub new-requires : goal.new-requires
 new-requires c = task-fits c.args.text.now c.in_ok-task_parts.field-0 c.requires (record {

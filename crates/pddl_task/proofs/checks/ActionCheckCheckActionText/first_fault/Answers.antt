@@ -20,9 +20,9 @@ returns c =
     rw (c.earlier-3.ensures, c.earlier-2.ensures, c.earlier-of_atoms.ensures, c.earlier.ensures)
     (first_of_rows (IsTwice [] (map word_of action.params)) (λ f. Any (IsUnknownType check.types.now f) action.params)
     (IsAtomFault (arity_in check.arities.now) (params ++ check.constants.now))
-    action.pre action.add action.del c.in_ok-again.again c.in_ok-of_types.of_types c.in_ok-of_pre.of_pre c.in_ok-of_add.of_add c.in_ok-of_del.of_del
+    action.pre action.add action.del c.in_ok-again.again c.first_unknown_type-of_types.result c.in_ok-of_pre.of_pre c.in_ok-of_add.of_add c.in_ok-of_del.of_del
     (rw (c.new.ensures, c.as_slice-params.ensures) at c.in_ok-again.ensures)
-    (rw c.as_slice-params.ensures at c.in_ok-of_types.ensures)
+    c.first_unknown_type-of_types.ensures
     (over action.pre c.in_ok-of_pre.of_pre (rw (c.in_ok-names.ensures, c.as_slice-params.ensures, c.as_slice.ensures) at c.in_ok-of_pre.ensures))
     (over action.add c.in_ok-of_add.of_add (rw (c.in_ok-names.ensures, c.as_slice-params.ensures, c.as_slice-2.ensures) at c.in_ok-of_add.ensures))
     (over action.del c.in_ok-of_del.of_del (rw (c.in_ok-names.ensures, c.as_slice-params.ensures, c.as_slice-3.ensures) at c.in_ok-of_del.ensures)))

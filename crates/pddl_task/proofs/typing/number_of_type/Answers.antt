@@ -1,6 +1,0 @@
-use Rattle.std.proofs.Common.{arith}
-use Rattle.pddl_task.proofs.Numbers.{number_within}
-use Rattle.pddl_task.proofs.typing.number_of_type.Goals as goal
-
-pub overflow_cast-result : goal.overflow_cast-result
-overflow_cast-result c = omega (arith, number_within c.args.names.now c.given_type.result.now)
