@@ -1,12 +1,104 @@
-//! How a command is run over a shelf, and what is compared.
+//! How commands are run over files in memory, and what is compared.
+//!
+//! Files are given as a text, one a line: its name and its text. Calls are given as a text: the exit status and the words on a
+//! line, and on the lines below it what is written; an empty line parts one call from the next. Where a text of several lines
+//! stands in one, ` / ` parts its lines.
 
-use bfgp_jobs::{Status, bfgp};
+use crate::given::FILES;
+use bfgp_jobs::bfgp;
 use bfgp_outside::{MemoryShelf, MemorySink, Shelf};
 use std::alloc::{AllocError, Global};
 use std::process::Abort;
 use std::test::Fail;
 
-// The words of a line, parted by single spaces; the empty line has none.
+/// A shelf that holds the files of all tests, and these.
+pub fn shelf_of(alloc: Global, files: &str) -> Result<MemoryShelf, Fail> {
+    let mut shelf = MemoryShelf::new(alloc);
+    for file in FILES.lines().chain(files.lines()) {
+        let (name, text) = file.split_once(": ").unwrap_or((file, ""));
+        shelf.add(name.as_bytes(), lines_of(alloc, text)?.as_bytes())?;
+    }
+    Ok(shelf)
+}
+
+/// The lines that ` / ` parts, each with its line feed; none of a text that is empty.
+pub fn lines_of(alloc: Global, text: &str) -> Result<String, AllocError> {
+    let mut lines = String::new(alloc);
+    if text.is_empty() {
+        return Ok(lines);
+    }
+    for line in text.split(" / ") {
+        lines.push_str(line)?;
+        lines.push_str("\n")?;
+    }
+    Ok(lines)
+}
+
+/// Makes each of the calls over the files of all tests and these, and compares its status and what it writes.
+pub fn check_calls<R: Abort>(rt: &R, alloc: Global, files: &str, calls: &str) -> Result<(), Fail> {
+    let mut shelf = shelf_of(alloc, files)?;
+    check_calls_over(rt, alloc, &mut shelf, calls)
+}
+
+/// The same over a shelf.
+pub fn check_calls_over<R: Abort>(
+    rt: &R,
+    alloc: Global,
+    shelf: &mut MemoryShelf,
+    calls: &str,
+) -> Result<(), Fail> {
+    for call in calls.split("\n\n") {
+        check_call(rt, alloc, shelf, call)?;
+    }
+    Ok(())
+}
+
+/// Makes one call, and compares its status and what it writes.
+pub fn check_call<R: Abort>(
+    rt: &R,
+    alloc: Global,
+    shelf: &mut MemoryShelf,
+    call: &str,
+) -> Result<(), Fail> {
+    let (head, written) = call.split_once('\n').unwrap_or((call, ""));
+    let (status, words) = head.split_once(' ').unwrap_or((head, ""));
+    check(rt, alloc, shelf, status, words, written)
+}
+
+/// Runs the words over a shelf, and compares the status and the lines that are written.
+pub fn check<R: Abort, S: Shelf>(
+    rt: &R,
+    alloc: Global,
+    shelf: &mut S,
+    status: &str,
+    words: &str,
+    written: &str,
+) -> Result<(), Fail> {
+    let mut sink = MemorySink::new(alloc, 4096, 16)?;
+    let got = status_of(alloc, shelf, &mut sink, words)?;
+    let mut lines = String::new(alloc);
+    for line in written.lines() {
+        lines.push_str(line)?;
+        lines.push_str("\n")?;
+    }
+    assert_eq!(rt; got.as_str(), status, "{words}");
+    assert_eq!(rt; sink.written(), lines.as_bytes(), "{words}");
+    Ok(())
+}
+
+/// Runs the words over a shelf and a sink, and gives the number of the status.
+pub fn status_of<S: Shelf>(
+    alloc: Global,
+    shelf: &mut S,
+    sink: &mut MemorySink,
+    words: &str,
+) -> Result<String, AllocError> {
+    let words = words_of(alloc, words)?;
+    let status = bfgp(alloc, &words, shelf, sink);
+    format!(in alloc; "{}", status as u8)
+}
+
+/// The words of a line, parted by single spaces; the empty line has none.
 pub fn words_of(alloc: Global, line: &str) -> Result<Vec<String>, AllocError> {
     let mut words = Vec::new(alloc);
     if line.is_empty() {
@@ -16,65 +108,4 @@ pub fn words_of(alloc: Global, line: &str) -> Result<Vec<String>, AllocError> {
         words.push(String::from_str(alloc, word)?)?;
     }
     Ok(words)
-}
-
-// A shelf that holds the domain `d` and the instance `i`.
-pub fn shelf_of(alloc: Global, domain: &str, instance: &str) -> Result<MemoryShelf, Fail> {
-    let mut shelf = MemoryShelf::new(alloc);
-    shelf.add(b"d", domain.as_bytes())?;
-    shelf.add(b"i", instance.as_bytes())?;
-    Ok(shelf)
-}
-
-// The same with the program `p`.
-pub fn shelf_with(
-    alloc: Global,
-    domain: &str,
-    instance: &str,
-    program: &str,
-) -> Result<MemoryShelf, Fail> {
-    let mut shelf = shelf_of(alloc, domain, instance)?;
-    shelf.add(b"p", program.as_bytes())?;
-    Ok(shelf)
-}
-
-// Runs the words of a line over a shelf, and compares the status and what was written.
-pub fn check<R: Abort>(
-    rt: &R,
-    alloc: Global,
-    line: &str,
-    shelf: &mut MemoryShelf,
-    status: Status,
-    text: &str,
-) -> Result<(), Fail> {
-    let mut sink = MemorySink::new(alloc, 4096, 16)?;
-    check_over(rt, alloc, line, shelf, &mut sink, status, text)
-}
-
-// The same over a sink to which nothing was written.
-pub fn check_over<R: Abort, S: Shelf>(
-    rt: &R,
-    alloc: Global,
-    line: &str,
-    shelf: &mut S,
-    sink: &mut MemorySink,
-    status: Status,
-    text: &str,
-) -> Result<(), Fail> {
-    let words = words_of(alloc, line)?;
-    assert_eq!(rt; bfgp(alloc, &words, shelf, sink), status, "{line}");
-    assert_eq!(rt; sink.written(), text.as_bytes(), "{line}");
-    Ok(())
-}
-
-// Checks that a fault is told of an input.
-pub fn check_fault<R: Abort>(
-    rt: &R,
-    alloc: Global,
-    line: &str,
-    shelf: &mut MemoryShelf,
-    fault: &str,
-) -> Result<(), Fail> {
-    let told = format!(in alloc; "input {fault}\n")?;
-    check(rt, alloc, line, shelf, Status::Input, told.as_str())
 }

@@ -1,5 +1,4 @@
-use crate::given::LIGHTS;
-use crate::marked_texts::{check_domains, check_problems};
+use crate::marked_texts::check_table;
 use std::test::Fail;
 
 const DOMAINS: &str = "\
@@ -33,7 +32,8 @@ twice: (define (domain d) (:action a) (:action @a))
 
 #[test]
 fn domains_with_a_fault(rt: HostRuntime) -> Result<(), Fail> {
-    check_domains(&rt, rt.alloc(), DOMAINS)
+    let words = "synth --pointers 1 --lines 1 marked lit";
+    check_table(&rt, rt.alloc(), "", words, DOMAINS)
 }
 
 const PROBLEMS: &str = "\
@@ -50,7 +50,13 @@ unknown: (define (problem p) (:objects a b - @k c d - k) (:goal (p k)) (:domain 
 
 #[test]
 fn problems_with_a_fault(rt: HostRuntime) -> Result<(), Fail> {
-    let constant = "(define (domain d) (:constants k) (:predicates (p ?x)))";
-    check_problems(&rt, rt.alloc(), LIGHTS, PROBLEMS)?;
-    check_problems(&rt, rt.alloc(), constant, PROBLEMS_OVER_A_CONSTANT)
+    let words = "synth --pointers 1 --lines 1 lights marked";
+    check_table(&rt, rt.alloc(), "", words, PROBLEMS)
+}
+
+#[test]
+fn problems_with_a_fault_over_a_constant(rt: HostRuntime) -> Result<(), Fail> {
+    let domain = "d: (define (domain d) (:constants k) (:predicates (p ?x)))";
+    let words = "synth --pointers 1 --lines 1 d marked";
+    check_table(&rt, rt.alloc(), domain, words, PROBLEMS_OVER_A_CONSTANT)
 }

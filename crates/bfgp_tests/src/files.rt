@@ -1,44 +1,75 @@
-use crate::calls::{check, check_fault, check_over, shelf_of, shelf_with};
-use crate::given::{CALL, LIGHT_ONE, LIGHTS, LIT, PREDICATES, RUN, SOLVED};
-use bfgp_jobs::Status;
+use crate::calls::{check, check_call, check_calls, shelf_of, status_of};
 use bfgp_outside::MemorySink;
+use flag_rules::read_decimal;
+use std::alloc::Global;
+use std::process::Abort;
 use std::test::Fail;
+
+const ABSENT: &str = "\
+3 synth --pointers 1 --lines 1 e lit
+input e absent
+
+3 synth --pointers 1 --lines 1 lights lit e
+input e absent
+
+3 run --pointers 1 --program e lights lit
+input e absent
+
+3 check --pointers 1 --lines 1 --answer e lights lit
+input e absent";
 
 #[test]
 fn files_that_are_absent(rt: HostRuntime) -> Result<(), Fail> {
-    let mut shelf = shelf_of(rt.alloc(), LIGHTS, LIT)?;
-    for line in &[
-        "synth --pointers 1 --lines 1 e i",
-        "synth --pointers 1 --lines 1 d i e",
-    ] {
-        check_fault(&rt, rt.alloc(), line, &mut shelf, "e absent")?;
-    }
-    Ok(())
+    check_calls(&rt, rt.alloc(), "", ABSENT)
 }
+
+const SOLVED: &str =
+    "a: bfgp answer 1 / pointers 1 / lines 1 / instances 1 / verdict program 1 / tree 1 / g / program / end / ends 0 0 / end of answer";
+
+// How many reads a call makes, two for each file; and what comes where only the next one would fail.
+const READS: &str = "\
+4 0 synth --pointers 1 --lines 1 predicates lit
+bfgp answer 1
+pointers 1
+lines 1
+instances 1
+verdict program 1
+tree 1
+g
+program
+end
+ends 0 0
+end of answer
+
+6 0 run --pointers 1 --program light-one lights lit
+instance 0 solved 1
+solved 1 of 1
+
+6 0 check --pointers 1 --lines 1 --answer a lights lit
+accepted";
 
 #[test]
 fn reads_that_fail(rt: HostRuntime) -> Result<(), Fail> {
-    for &(call, status, text) in &[
-        (0, Status::ReadFault, ""),
-        (2, Status::ReadFault, ""),
-        (4, Status::Done, SOLVED),
-    ] {
-        let mut shelf = shelf_of(rt.alloc(), PREDICATES, LIT)?;
-        shelf.fail_at(call)?;
-        check(&rt, rt.alloc(), CALL, &mut shelf, status, text)?;
+    for row in READS.split("\n\n") {
+        let (reads, call) = row.split_once(' ').unwrap_or((row, ""));
+        let reads = read_decimal(reads.as_bytes()).unwrap_or(0);
+        for read in 0..reads {
+            check_read_fault(&rt, rt.alloc(), read, call)?;
+        }
+        let mut shelf = shelf_of(rt.alloc(), SOLVED)?;
+        shelf.fail_at(reads)?;
+        check_call(&rt, rt.alloc(), &mut shelf, call)?;
     }
     Ok(())
 }
 
-#[test]
-fn a_program_file_that_cannot_be_read(rt: HostRuntime) -> Result<(), Fail> {
-    let report = "instance 0 solved 1\nsolved 1 of 1\n";
-    for &(call, status, text) in &[(4, Status::ReadFault, ""), (6, Status::Done, report)] {
-        let mut shelf = shelf_with(rt.alloc(), LIGHTS, LIT, LIGHT_ONE)?;
-        shelf.fail_at(call)?;
-        check(&rt, rt.alloc(), RUN, &mut shelf, status, text)?;
-    }
-    Ok(())
+// Checks that a call where this read fails writes nothing and says so.
+fn check_read_fault<R: Abort>(rt: &R, alloc: Global, read: u64, call: &str) -> Result<(), Fail> {
+    let (head, _) = call.split_once('\n').unwrap_or((call, ""));
+    let (_, words) = head.split_once(' ').unwrap_or((head, ""));
+    let mut shelf = shelf_of(alloc, SOLVED)?;
+    shelf.fail_at(read)?;
+    check(rt, alloc, &mut shelf, "6", words, "")
 }
 
 // The room of the sink, which takes 16 bytes a put; the put that fails; and what is written of the answer.
@@ -50,14 +81,16 @@ const FAILED_WRITES: &[(usize, Option<u64>, &str)] = &[
 
 #[test]
 fn writes_that_fail(rt: HostRuntime) -> Result<(), Fail> {
-    let mut shelf = shelf_of(rt.alloc(), PREDICATES, LIT)?;
-    for &(room, put, text) in FAILED_WRITES {
+    let mut shelf = shelf_of(rt.alloc(), "")?;
+    let words = "synth --pointers 1 --lines 1 predicates lit";
+    for &(room, put, written) in FAILED_WRITES {
         let mut sink = MemorySink::new(rt.alloc(), room, 16)?;
         if let Some(call) = put {
             sink.fail_at(call)?;
         }
-        let status = Status::WriteFault;
-        check_over(&rt, rt.alloc(), CALL, &mut shelf, &mut sink, status, text)?;
+        let status = status_of(rt.alloc(), &mut shelf, &mut sink, words)?;
+        assert_eq!(rt; status.as_str(), "7");
+        assert_eq!(rt; sink.written(), written.as_bytes());
     }
     Ok(())
 }

@@ -7,6 +7,10 @@ mod asking_shelf;
 #[cfg(test)]
 mod calls;
 #[cfg(test)]
+mod changes;
+#[cfg(test)]
+mod checks;
+#[cfg(test)]
 mod documents;
 #[cfg(test)]
 mod faults;
@@ -30,5 +34,7 @@ mod reading_order;
 mod reports;
 #[cfg(test)]
 mod searches;
+#[cfg(test)]
+mod single_changes;
 #[cfg(test)]
 mod words;

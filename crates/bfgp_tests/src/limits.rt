@@ -1,100 +1,229 @@
-use crate::calls::{check, check_fault, check_over, shelf_of};
-use crate::given::{CALL, LIGHTS, LIT, PREDICATES, REFUTED, SOLVED, UNLIT};
-use bfgp_jobs::Status;
-use bfgp_outside::{MemoryShelf, MemorySink};
+use crate::calls::{check_calls, check_calls_over, shelf_of};
+use bfgp_outside::MemoryShelf;
+use flag_rules::OutOfMemory;
 use std::alloc::{AllocError, Global};
-use std::process::Abort;
 use std::test::Fail;
 
-// The fault that is told, and the domain. Parameters come before arities, and a fault with a place comes before a
-// limit.
-const DOMAINS: &str = "\
-d limit parameters 7: (define (domain d) (:predicates (p ?a ?b ?c ?d ?e)) (:action a) (:action b :parameters (?a ?b ?c ?d ?e ?f ?g)))
-d limit arity 6: (define (domain d) (:predicates (p) (q ?a ?b ?c ?d ?e ?f) (r ?a ?b ?c ?d ?e)))
-d twice 52: (define (domain d) (:predicates (q ?a ?b ?c ?d ?e) (q)))
+// Domains past a limit, and instances without objects. Parameters come before arities, and a fault with a place comes before
+// a limit.
+const PAST_A_LIMIT: &str = "\
+params: (define (domain d) (:predicates (p ?a ?b ?c ?d ?e)) (:action a) (:action b :parameters (?a ?b ?c ?d ?e ?f ?g)))
+arity: (define (domain d) (:predicates (p) (q ?a ?b ?c ?d ?e ?f) (r ?a ?b ?c ?d ?e)))
+twice: (define (domain d) (:predicates (q ?a ?b ?c ?d ?e) (q)))
+none: (define (problem p) (:domain lights) (:objects) (:init) (:goal ()))
+left-out: (define (problem p) (:domain lights) (:goal ()))
 ";
 
+const REFUSED: &str = "\
+3 synth --pointers 1 --lines 1 params lit
+input params limit parameters 7
+
+3 synth --pointers 1 --lines 1 arity lit
+input arity limit arity 6
+
+3 synth --pointers 1 --lines 1 twice lit
+input twice twice 52
+
+3 synth --pointers 1 --lines 1 lights none
+input none no object
+
+3 synth --pointers 1 --lines 1 lights left-out
+input left-out no object";
+
 #[test]
-fn limits_of_domains(rt: HostRuntime) -> Result<(), Fail> {
-    for row in DOMAINS.lines() {
-        let (fault, domain) = row.split_once(": ").unwrap_or((row, ""));
-        let mut shelf = shelf_of(rt.alloc(), domain, LIT)?;
-        check_fault(&rt, rt.alloc(), CALL, &mut shelf, fault)?;
-    }
-    Ok(())
+fn limits_of_domains_and_instances(rt: HostRuntime) -> Result<(), Fail> {
+    check_calls(&rt, rt.alloc(), PAST_A_LIMIT, REFUSED)
 }
 
+// The domain `four` has no predicate, and two actions of four parameters: 548 operations over four pointers, and 183 over
+// three.
+const LINKS_AND_ACTIONS: &str = "\
+links: (define (domain links) (:predicates (link ?x ?y)))
+four: (define (domain d) (:action a :parameters (?a ?b ?c ?d) :effect ()) (:action b :parameters (?a ?b ?c ?d) :effect ()))
+one: (define (problem p) (:domain d) (:objects a) (:goal ()))
+";
+
+// A file of so many bytes, lists within lists so deep, so many objects, or so many operations over four pointers: as many as
+// there may be, and one more.
+const AT_A_BOUND: &str = "\
+3 synth --pointers 1 --lines 1 deep-64 lit
+input deep-64 unclosed 63
+
+3 synth --pointers 1 --lines 1 deep-65 lit
+input deep-65 too deep 64
+
+1 synth --pointers 1 --lines 1 predicates lights-256
+bfgp answer 1
+pointers 1
+lines 1
+instances 1
+verdict none
+tree 1
+f 0 0
+end of answer
+
+3 synth --pointers 1 --lines 1 predicates lights-257
+input lights-257 limit objects 257
+
+1 synth --pointers 1 --lines 1 links links-128
+bfgp answer 1
+pointers 1
+lines 1
+instances 1
+verdict none
+tree 1
+f 0 0
+end of answer
+
+3 synth --pointers 1 --lines 1 links links-129
+input links-129 atoms 16641
+
+0 synth --pointers 1 --lines 1 long-1048576 lit
+bfgp answer 1
+pointers 1
+lines 1
+instances 1
+verdict program 1
+tree 1
+g
+program
+end
+ends 0 0
+end of answer
+
+3 synth --pointers 1 --lines 1 long-1048577 lit
+input long-1048577 too long
+
+1 synth --pointers 4 --lines 1 actions-448 unlit
+bfgp answer 1
+pointers 4
+lines 1
+instances 1
+verdict none
+tree 1
+f 0 0
+end of answer
+
+3 synth --pointers 4 --lines 1 actions-449 unlit
+input actions-449 operations 449
+
+3 synth --pointers 4 --lines 1 four one
+input four operations 548
+
+0 synth --pointers 3 --lines 1 four one
+bfgp answer 1
+pointers 3
+lines 1
+instances 1
+verdict program 1
+tree 1
+g
+program
+end
+ends 0 0
+end of answer";
+
 #[test]
-fn instances_without_objects(rt: HostRuntime) -> Result<(), Fail> {
-    for instance in &[
-        "(define (problem p) (:domain lights) (:objects) (:init) (:goal ()))",
-        "(define (problem p) (:domain lights) (:goal ()))",
-    ] {
-        let mut shelf = shelf_of(rt.alloc(), LIGHTS, instance)?;
-        check_fault(&rt, rt.alloc(), CALL, &mut shelf, "i no object")?;
-    }
-    Ok(())
+fn at_a_bound_and_one_past(rt: HostRuntime) -> Result<(), Fail> {
+    let mut shelf = large_files(rt.alloc(), LINKS_AND_ACTIONS)?;
+    check_calls_over(&rt, rt.alloc(), &mut shelf, AT_A_BOUND)
 }
 
+// Which fault is told where there are several.
+const FIRST_FAULTS: &str = "\
+3 run --pointers 1 --program q lights lit
+input q absent
+
+3 run --pointers 1 --program q lights e
+input e absent
+
+3 run --pointers 1 --program q e lit
+input e absent
+
+3 run --pointers 1 --program long-1048577 lights lit
+input long-1048577 too long
+
+3 run --pointers 4 --program q actions-449 lit
+input actions-449 operations 449
+
+3 check --pointers 1 --lines 1 --answer q lights lit
+input q absent
+
+3 check --pointers 1 --lines 1 --answer q lights e
+input e absent
+
+3 check --pointers 1 --lines 1 --answer q e lit
+input e absent
+
+3 check --pointers 1 --lines 1 --answer q long-1048577 lit
+input long-1048577 too long
+
+3 check --pointers 1 --lines 1 --answer q lights lights-257
+input lights-257 limit objects 257
+
+3 check --pointers 1 --lines 1 --answer q links links-129
+input links-129 atoms 16641
+
+3 check --pointers 4 --lines 1 --answer q actions-449 lit
+input actions-449 operations 449
+
+1 check --pointers 1 --lines 1 --answer long-1048577 lights lit
+rejected";
+
 #[test]
-fn lists_within_lists(rt: HostRuntime) -> Result<(), Fail> {
-    for &(depth, fault) in &[(64, "d unclosed 63"), (65, "d too deep 64")] {
-        let domain = vec![in rt.alloc(); b'('; depth]?;
-        let mut shelf = shelf_of(rt.alloc(), "", LIT)?;
-        shelf.add(b"d", &domain)?;
-        check_fault(&rt, rt.alloc(), CALL, &mut shelf, fault)?;
-    }
-    Ok(())
+fn the_first_fault_is_told(rt: HostRuntime) -> Result<(), Fail> {
+    let mut shelf = large_files(rt.alloc(), LINKS_AND_ACTIONS)?;
+    check_calls_over(&rt, rt.alloc(), &mut shelf, FIRST_FAULTS)
 }
 
-const LINKS: &str = "(define (domain links) (:predicates (link ?x ?y)))";
-
-// The name of a domain, the domain, a goal, how many objects there are, and what is answered.
-type Bound = (
-    &'static str,
-    &'static str,
-    &'static str,
-    u32,
-    Status,
-    &'static str,
-);
-
-const BOUNDS: &[Bound] = &[
-    ("lights", PREDICATES, "(lit o0)", 256, Status::No, REFUTED),
-    (
-        "lights",
-        PREDICATES,
-        "(lit o0)",
-        257,
-        Status::Input,
-        "input i limit objects 257\n",
-    ),
-    ("links", LINKS, "(link o0 o0)", 128, Status::No, REFUTED),
-    (
-        "links",
-        LINKS,
-        "(link o0 o0)",
-        129,
-        Status::Input,
-        "input i atoms 16641\n",
-    ),
-];
-
-#[test]
-fn objects_and_atoms_at_their_bounds_and_one_past(rt: HostRuntime) -> Result<(), Fail> {
-    for &(name, domain, goal, objects, status, text) in BOUNDS {
-        let instance = many_objects(rt.alloc(), name, objects, goal)?;
-        let mut shelf = shelf_of(rt.alloc(), domain, instance.as_str())?;
-        check_at_once(&rt, rt.alloc(), &mut shelf, status, text)?;
+// A shelf that holds files at their bounds and one past, beside these and those of all tests.
+fn large_files(alloc: Global, files: &str) -> Result<MemoryShelf, Fail> {
+    let mut shelf = shelf_of(alloc, files)?;
+    for past in 0..2 {
+        add_large_files(alloc, &mut shelf, past)?;
     }
-    Ok(())
+    Ok(shelf)
+}
+
+// The files at a bound, where `past` is 0, or one past it, where that is 1. The name of each tells its size.
+fn add_large_files(alloc: Global, shelf: &mut MemoryShelf, past: u8) -> Result<(), OutOfMemory> {
+    let past = usize::from(past);
+    let long = long_domain(alloc, 1_048_576 + past)?;
+    add(alloc, shelf, "long", 1_048_576 + past, &long)?;
+    let deep = vec![in alloc; b'('; 64 + past]?;
+    add(alloc, shelf, "deep", 64 + past, &deep)?;
+    let lights = many_objects(alloc, "lights", 256 + past, "(lit o0)")?;
+    add(alloc, shelf, "lights", 256 + past, lights.as_bytes())?;
+    let links = many_objects(alloc, "links", 128 + past, "(link o0 o0)")?;
+    add(alloc, shelf, "links", 128 + past, links.as_bytes())?;
+    let actions = many_actions(alloc, past == 1)?;
+    add(alloc, shelf, "actions", 448 + past, actions.as_bytes())
+}
+
+fn add(
+    alloc: Global,
+    shelf: &mut MemoryShelf,
+    kind: &str,
+    size: usize,
+    bytes: &[u8],
+) -> Result<(), OutOfMemory> {
+    let name = format!(in alloc; "{kind}-{size}")?;
+    shelf.add(name.as_bytes(), bytes)
+}
+
+// A domain of so many bytes.
+fn long_domain(alloc: Global, bytes: usize) -> Result<Vec<u8>, AllocError> {
+    let domain = "(define (domain lights) (:predicates (lit ?x)))";
+    let mut domain = Vec::from_slice(alloc, domain.as_bytes())?;
+    domain.resize(bytes, b' ')?;
+    Ok(domain)
 }
 
 // An instance of so many objects, none of which is in an atom at the start.
 fn many_objects(
     alloc: Global,
     domain: &str,
-    objects: u32,
+    objects: usize,
     goal: &str,
 ) -> Result<String, AllocError> {
     let mut instance = format!(in alloc; "(define (problem p) (:domain {domain}) (:objects")?;
@@ -105,38 +234,11 @@ fn many_objects(
     Ok(instance)
 }
 
-#[test]
-fn bytes_of_a_file_at_their_bound_and_one_past(rt: HostRuntime) -> Result<(), Fail> {
-    for &(bytes, status, text) in &[
-        (1_048_576, Status::Done, SOLVED),
-        (1_048_577, Status::Input, "input d too long\n"),
-    ] {
-        let mut domain = Vec::from_slice(rt.alloc(), PREDICATES.as_bytes())?;
-        domain.resize(bytes, b' ')?;
-        let mut shelf = shelf_of(rt.alloc(), "", LIT)?;
-        shelf.add(b"d", &domain)?;
-        check_at_once(&rt, rt.alloc(), &mut shelf, status, text)?;
-    }
-    Ok(())
-}
-
-// Compares as `check` does, over a sink that takes all bytes at once.
-fn check_at_once<R: Abort>(
-    rt: &R,
-    alloc: Global,
-    shelf: &mut MemoryShelf,
-    status: Status,
-    text: &str,
-) -> Result<(), Fail> {
-    let mut sink = MemorySink::new(alloc, 4096, 4096)?;
-    check_over(rt, alloc, CALL, shelf, &mut sink, status, text)
-}
-
-// A domain whose actions have as many operations over four pointers as there may be but four, or one more.
-pub fn many_actions(alloc: Global, one_more: bool) -> Result<String, AllocError> {
+// A domain that has 448 operations over four pointers, as many as there may be, or one more.
+fn many_actions(alloc: Global, one_more: bool) -> Result<String, AllocError> {
     let mut domain = String::from_str(alloc, "(define (domain lights) (:predicates (lit ?x))")?;
-    for (number, params) in ["?a ?b ?c ?d", "?a ?b ?c", "?a ?b ?c", "?a ?b", "?a", "?a"]
-        .iter()
+    for (number, params) in "?a ?b ?c ?d/?a ?b ?c/?a ?b ?c/?a ?b/?a/?a"
+        .split('/')
         .enumerate()
     {
         write!(
@@ -149,66 +251,4 @@ pub fn many_actions(alloc: Global, one_more: bool) -> Result<String, AllocError>
     }
     domain.push_str(")")?;
     Ok(domain)
-}
-
-const REFUTED_OVER_FOUR_POINTERS: &str = "bfgp answer 1
-pointers 4
-lines 1
-instances 1
-verdict none
-tree 1
-f 0 0
-end of answer
-";
-
-#[test]
-fn operations_at_their_bound_and_one_past(rt: HostRuntime) -> Result<(), Fail> {
-    for &(one_more, status, text) in &[
-        (false, Status::No, REFUTED_OVER_FOUR_POINTERS),
-        (true, Status::Input, "input d operations 449\n"),
-    ] {
-        let domain = many_actions(rt.alloc(), one_more)?;
-        let mut shelf = shelf_of(rt.alloc(), domain.as_str(), UNLIT)?;
-        let line = "synth --pointers 4 --lines 1 d i";
-        check(&rt, rt.alloc(), line, &mut shelf, status, text)?;
-    }
-    Ok(())
-}
-
-// No predicate, and two actions of four parameters. They have 548 operations over four pointers, and 183 over three.
-const FOUR_PARAMETERS: &str = "(define (domain d)
-  (:action a :parameters (?a ?b ?c ?d) :effect ()) (:action b :parameters (?a ?b ?c ?d) :effect ()))";
-
-const SOLVED_OVER_THREE_POINTERS: &str = "bfgp answer 1
-pointers 3
-lines 1
-instances 1
-verdict program 1
-tree 1
-g
-program
-end
-ends 0 0
-end of answer
-";
-
-#[test]
-fn operations_by_the_number_of_pointers(rt: HostRuntime) -> Result<(), Fail> {
-    let instance = "(define (problem p) (:domain d) (:objects a) (:goal ()))";
-    for &(line, status, text) in &[
-        (
-            "synth --pointers 4 --lines 1 d i",
-            Status::Input,
-            "input d operations 548\n",
-        ),
-        (
-            "synth --pointers 3 --lines 1 d i",
-            Status::Done,
-            SOLVED_OVER_THREE_POINTERS,
-        ),
-    ] {
-        let mut shelf = shelf_of(rt.alloc(), FOUR_PARAMETERS, instance)?;
-        check(&rt, rt.alloc(), line, &mut shelf, status, text)?;
-    }
-    Ok(())
 }

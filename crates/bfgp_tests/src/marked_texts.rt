@@ -2,60 +2,38 @@
 //! it has the fault.
 
 use crate::calls::{check, shelf_of};
-use crate::given::{CALL, LIT};
-use bfgp_jobs::Status;
+use bfgp_outside::MemoryShelf;
 use std::alloc::Global;
 use std::process::Abort;
 use std::test::Fail;
 
-// Checks that each domain of a table is refused.
-pub fn check_domains<R: Abort>(rt: &R, alloc: Global, table: &str) -> Result<(), Fail> {
-    for row in table.lines() {
-        let (kind, marked) = row.split_once(": ").unwrap_or((row, ""));
-        check_domain(rt, alloc, kind, marked)?;
-    }
-    Ok(())
-}
-
-// Checks that each problem of a table is refused, over one domain.
-pub fn check_problems<R: Abort>(
+/// Checks that each text of a table is refused, as the file `marked` that the words name beside these files.
+pub fn check_table<R: Abort>(
     rt: &R,
     alloc: Global,
-    domain: &str,
+    files: &str,
+    words: &str,
     table: &str,
 ) -> Result<(), Fail> {
+    let mut shelf = shelf_of(alloc, files)?;
     for row in table.lines() {
         let (kind, marked) = row.split_once(": ").unwrap_or((row, ""));
-        check_problem(rt, alloc, domain, kind, marked)?;
+        check_marked(rt, alloc, &mut shelf, words, kind, marked)?;
     }
     Ok(())
 }
 
-// Checks that a domain is refused.
-pub fn check_domain<R: Abort>(rt: &R, alloc: Global, kind: &str, marked: &str) -> Result<(), Fail> {
-    let (domain, line) = told(alloc, "d", kind, marked)?;
-    let mut shelf = shelf_of(alloc, domain.as_str(), LIT)?;
-    check(rt, alloc, CALL, &mut shelf, Status::Input, line.as_str())
-}
-
-// Checks that a problem is refused, over this domain.
-fn check_problem<R: Abort>(
+/// Checks that a text is refused, as the file `marked` that the words name.
+pub fn check_marked<R: Abort>(
     rt: &R,
     alloc: Global,
-    domain: &str,
+    shelf: &mut MemoryShelf,
+    words: &str,
     kind: &str,
     marked: &str,
 ) -> Result<(), Fail> {
-    let (problem, line) = told(alloc, "i", kind, marked)?;
-    let mut shelf = shelf_of(alloc, domain, problem.as_str())?;
-    check(rt, alloc, CALL, &mut shelf, Status::Input, line.as_str())
-}
-
-// The text without its mark, and the line that tells the fault of the file.
-fn told(alloc: Global, file: &str, kind: &str, marked: &str) -> Result<(String, String), Fail> {
     let (front, rest) = marked.split_once('@').unwrap_or((marked, ""));
-    let mut text = String::from_str(alloc, front)?;
-    text.push_str(rest)?;
-    let line = format!(in alloc; "input {file} {kind} {}\n", front.len())?;
-    Ok((text, line))
+    shelf.add(b"marked", format!(in alloc; "{front}{rest}")?.as_bytes())?;
+    let fault = format!(in alloc; "input marked {kind} {}", front.len())?;
+    check(rt, alloc, shelf, "3", words, fault.as_str())
 }

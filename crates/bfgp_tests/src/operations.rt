@@ -7,13 +7,10 @@ use std::alloc::Global;
 use std::process::Abort;
 use std::test::Fail;
 
-const LAMPS: &str = "(define (domain lamps) (:predicates (lit ?x) (next ?x ?y))
-  (:action light :parameters (?x) :effect (lit ?x))
-  (:action fade :parameters (?x) :precondition (lit ?x) :effect (not (lit ?x)))
-  (:action spread :parameters (?x ?y) :precondition (and (lit ?x) (next ?x ?y)) :effect (lit ?y)))";
-
-const TWO_LAMPS: &str = "(define (problem two) (:domain lamps) (:objects a b)
-  (:init (lit a) (next a b)) (:goal (and (lit a) (lit b))))";
+const LAMPS: &str = "\
+d: (define (domain lamps) (:predicates (lit ?x) (next ?x ?y)) (:action light :parameters (?x) :effect (lit ?x)) (:action fade :parameters (?x) :precondition (lit ?x) :effect (not (lit ?x))) (:action spread :parameters (?x ?y) :precondition (and (lit ?x) (next ?x ?y)) :effect (lit ?y)))
+i: (define (problem two) (:domain lamps) (:objects a b) (:init (lit a) (next a b)) (:goal (and (lit a) (lit b))))
+";
 
 // An action gives 1 where it is applicable, also where it changes nothing, and else 0.
 const ACT: &str = "\
@@ -111,7 +108,7 @@ fn jumps_under_each_condition(rt: HostRuntime) -> Result<(), Fail> {
 
 fn check_rows<R: Abort>(rt: &R, alloc: Global, rows: &str) -> Result<(), Fail> {
     let words = "run --pointers 2 --program p d i";
-    let mut shelf = shelf_of(alloc, LAMPS, TWO_LAMPS)?;
+    let mut shelf = shelf_of(alloc, LAMPS)?;
     for row in rows.lines() {
         let (program, standing) = row.split_once(": ").unwrap_or((row, ""));
         check_run(rt, alloc, words, &mut shelf, program, standing)?;

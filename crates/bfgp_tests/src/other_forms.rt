@@ -1,5 +1,5 @@
-use crate::given::LIGHTS;
-use crate::marked_texts::{check_domain, check_domains, check_problems};
+use crate::calls::shelf_of;
+use crate::marked_texts::{check_marked, check_table};
 use std::test::Fail;
 
 const DOMAINS: &str = "\
@@ -61,8 +61,16 @@ shape: (define (domain d) @:types)
 
 #[test]
 fn domains_of_another_form(rt: HostRuntime) -> Result<(), Fail> {
-    check_domains(&rt, rt.alloc(), DOMAINS)?;
-    check_domain(&rt, rt.alloc(), "shape", "; only\n;x@")
+    let words = "synth --pointers 1 --lines 1 marked lit";
+    check_table(&rt, rt.alloc(), "", words, DOMAINS)
+}
+
+// Its text is that of two lines.
+#[test]
+fn a_domain_of_comments_alone(rt: HostRuntime) -> Result<(), Fail> {
+    let mut shelf = shelf_of(rt.alloc(), "")?;
+    let words = "synth --pointers 1 --lines 1 marked lit";
+    check_marked(&rt, rt.alloc(), &mut shelf, words, "shape", "; only\n;x@")
 }
 
 const PROBLEMS: &str = "\
@@ -90,5 +98,6 @@ shape: (define (@domain d))
 
 #[test]
 fn problems_of_another_form(rt: HostRuntime) -> Result<(), Fail> {
-    check_problems(&rt, rt.alloc(), LIGHTS, PROBLEMS)
+    let words = "synth --pointers 1 --lines 1 lights marked";
+    check_table(&rt, rt.alloc(), "", words, PROBLEMS)
 }

@@ -1,54 +1,35 @@
-use crate::calls::{check_fault, shelf_with};
-use crate::given::{LIGHT_ONE, LIGHTS, LIT, RUN};
-use crate::limits::many_actions;
+use crate::calls::{check, lines_of, shelf_of};
+use std::alloc::Global;
+use std::process::Abort;
 use std::test::Fail;
 
-// Programs, and the faults that are told of them.
-const FAULTS: &[(&str, &str)] = &[
-    ("", "p no end"),
-    ("inc p0\n", "p no end"),
-    ("end\ninc p0\n", "p no end"),
-    // an operation over a pointer that there is not, a jump to the following line, and a word too many
-    ("inc p0\ninc p1\nend\n", "p line 2"),
-    ("; up\n\ngoto 1 if zero\ninc p0\nend\n", "p line 3"),
-    ("act light p0 p0\nend\n", "p line 1"),
-    ("end\nend\n", "p line 1"),
-    (
-        "inc p0\ninc p0\ninc p0\ninc p0\ninc p0\ninc p0\ninc p0\ninc p0\ninc p0\ninc p0\ninc p0\ninc p0\ninc p0\ninc p0\ninc p0\ninc p0\n",
-        "p no end",
-    ),
-    (
-        "inc p0\ninc p0\ninc p0\ninc p0\ninc p0\ninc p0\ninc p0\ninc p0\ninc p0\ninc p0\ninc p0\ninc p0\ninc p0\ninc p0\ninc p0\ninc p0\n\ninc p0\n",
-        "p program too long 17",
-    ),
-];
+// Programs, and the faults that are told of them: too long with 17 lines; an operation over a pointer that there is not, a jump to
+// the following line, and a word too many. The first program has no line.
+const FAULTS: &str = "\
+: no end
+inc p0: no end
+end / inc p0: no end
+inc p0 / inc p1 / end: line 2
+; up /  / goto 1 if zero / inc p0 / end: line 3
+act light p0 p0 / end: line 1
+end / end: line 1
+inc p0 / inc p0 / inc p0 / inc p0 / inc p0 / inc p0 / inc p0 / inc p0 / inc p0 / inc p0 / inc p0 / inc p0 / inc p0 / inc p0 / inc p0 / inc p0: no end
+inc p0 / inc p0 / inc p0 / inc p0 / inc p0 / inc p0 / inc p0 / inc p0 / inc p0 / inc p0 / inc p0 / inc p0 / inc p0 / inc p0 / inc p0 / inc p0 /  / inc p0: program too long 17
+";
 
 #[test]
 fn programs_with_a_fault(rt: HostRuntime) -> Result<(), Fail> {
-    for (program, fault) in FAULTS {
-        let mut shelf = shelf_with(rt.alloc(), LIGHTS, LIT, program)?;
-        check_fault(&rt, rt.alloc(), RUN, &mut shelf, fault)?;
+    for row in FAULTS.lines() {
+        let (program, fault) = row.split_once(": ").unwrap_or((row, ""));
+        check_fault(&rt, rt.alloc(), program, fault)?;
     }
     Ok(())
 }
 
-// Words, and the fault that is told: the file `l` is too long, there are too many operations over `m`, and no `e` and `q`.
-const FIRST_FAULTS: &str = "\
-run --pointers 1 --program q d i: q absent
-run --pointers 1 --program q d e: e absent
-run --pointers 1 --program q e i: e absent
-run --pointers 1 --program l d i: l too long
-run --pointers 4 --program q m i: m operations 449
-";
-
-#[test]
-fn the_first_fault_is_told(rt: HostRuntime) -> Result<(), Fail> {
-    let mut shelf = shelf_with(rt.alloc(), LIGHTS, LIT, LIGHT_ONE)?;
-    shelf.add(b"l", &vec![in rt.alloc(); b' '; 1_048_577]?)?;
-    shelf.add(b"m", many_actions(rt.alloc(), true)?.as_bytes())?;
-    for row in FIRST_FAULTS.lines() {
-        let (words, fault) = row.split_once(": ").unwrap_or((row, ""));
-        check_fault(&rt, rt.alloc(), words, &mut shelf, fault)?;
-    }
-    Ok(())
+fn check_fault<R: Abort>(rt: &R, alloc: Global, program: &str, fault: &str) -> Result<(), Fail> {
+    let mut shelf = shelf_of(alloc, "")?;
+    shelf.add(b"p", lines_of(alloc, program)?.as_bytes())?;
+    let words = "run --pointers 1 --program p lights lit";
+    let told = format!(in alloc; "input p {fault}")?;
+    check(rt, alloc, &mut shelf, "3", words, told.as_str())
 }

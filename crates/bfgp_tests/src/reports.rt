@@ -1,70 +1,20 @@
-use crate::calls::{check, shelf_with};
-use crate::given::{LIGHT_ONE, LIGHTS, LIT, RUN, THREE_UNLIT, TWO_UNLIT, UNLIT};
-use bfgp_jobs::Status;
+use crate::calls::{check, check_calls, lines_of, shelf_of};
 use bfgp_outside::MemoryShelf;
-use std::alloc::{AllocError, Global};
+use std::alloc::Global;
 use std::process::Abort;
 use std::test::Fail;
 
-const CORRIDOR: &str = "(define (domain corridor) (:predicates (at ?c) (next ?x ?y))
-  (:action move :parameters (?x ?y) :precondition (and (at ?x) (next ?x ?y)) :effect (and (not (at ?x)) (at ?y))))";
-
-const THREE_CELLS: &str = "(define (problem three) (:domain corridor) (:objects a b c)
-  (:init (at a) (next a b) (next b c)) (:goal (at c)))";
-
-// What is lit is lit again.
-const RENEW: &str = "(define (domain lights) (:predicates (lit ?x))
-  (:action renew :parameters (?x) :precondition (lit ?x) :effect (and (lit ?x) (not (lit ?x)))))";
-
-const GRIPPER: &str = "(define (domain gripper-strips)
-  (:predicates (room ?r) (ball ?b) (gripper ?g) (at-robby ?r) (at ?b ?r) (free ?g) (carry ?o ?g))
-  (:action move :parameters (?from ?to)
-    :precondition (and (room ?from) (room ?to) (at-robby ?from))
-    :effect (and (at-robby ?to) (not (at-robby ?from))))
-  (:action pick :parameters (?obj ?room ?gripper)
-    :precondition (and (ball ?obj) (room ?room) (gripper ?gripper) (at ?obj ?room) (at-robby ?room) (free ?gripper))
-    :effect (and (carry ?obj ?gripper) (not (at ?obj ?room)) (not (free ?gripper))))
-  (:action drop :parameters (?obj ?room ?gripper)
-    :precondition (and (ball ?obj) (room ?room) (gripper ?gripper) (carry ?obj ?gripper) (at-robby ?room))
-    :effect (and (at ?obj ?room) (free ?gripper) (not (carry ?obj ?gripper)))))";
-
-const TWO_BALLS: &str = "(define (problem strips-gripper-2) (:domain gripper-strips)
-  (:objects rooma roomb ball2 ball1 left right)
-  (:init (room rooma) (room roomb) (ball ball2) (ball ball1) (at-robby rooma) (free left) (free right)
-    (at ball2 rooma) (at ball1 rooma) (gripper left) (gripper right))
-  (:goal (and (at ball2 roomb) (at ball1 roomb))))";
-
-const FOUR_BALLS: &str = "(define (problem strips-gripper-4) (:domain gripper-strips)
-  (:objects rooma roomb ball4 ball3 ball2 ball1 left right)
-  (:init (room rooma) (room roomb) (ball ball4) (ball ball3) (ball ball2) (ball ball1) (at-robby rooma) (free left) (free right)
-    (at ball4 rooma) (at ball3 rooma) (at ball2 rooma) (at ball1 rooma) (gripper left) (gripper right))
-  (:goal (and (at ball4 roomb) (at ball3 roomb) (at ball2 roomb) (at ball1 roomb))))";
-
-// Each ball is carried by each hand.
-const CARRY: &str = "inc p2
-inc p3
-test gripper p3
-goto 1 if zero
-act pick p0 p1 p3
-act move p1 p2
-act drop p0 p2 p3
-act move p2 p1
-inc p0
-goto 4 if carry
-end
+// Domains, instances of them, and a program by which each ball is carried by each hand. What is lit is renewed.
+const RUN_FILES: &str = "\
+corridor: (define (domain corridor) (:predicates (at ?c) (next ?x ?y)) (:action move :parameters (?x ?y) :precondition (and (at ?x) (next ?x ?y)) :effect (and (not (at ?x)) (at ?y))))
+cells: (define (problem three) (:domain corridor) (:objects a b c) (:init (at a) (next a b) (next b c)) (:goal (at c)))
+renew: (define (domain lights) (:predicates (lit ?x)) (:action renew :parameters (?x) :precondition (lit ?x) :effect (and (lit ?x) (not (lit ?x)))))
+gripper: (define (domain gripper-strips) (:predicates (room ?r) (ball ?b) (gripper ?g) (at-robby ?r) (at ?b ?r) (free ?g) (carry ?o ?g)) (:action move :parameters (?from ?to) :precondition (and (room ?from) (room ?to) (at-robby ?from)) :effect (and (at-robby ?to) (not (at-robby ?from)))) (:action pick :parameters (?obj ?room ?gripper) :precondition (and (ball ?obj) (room ?room) (gripper ?gripper) (at ?obj ?room) (at-robby ?room) (free ?gripper)) :effect (and (carry ?obj ?gripper) (not (at ?obj ?room)) (not (free ?gripper)))) (:action drop :parameters (?obj ?room ?gripper) :precondition (and (ball ?obj) (room ?room) (gripper ?gripper) (carry ?obj ?gripper) (at-robby ?room)) :effect (and (at ?obj ?room) (free ?gripper) (not (carry ?obj ?gripper)))))
+two-balls: (define (problem strips-gripper-2) (:domain gripper-strips) (:objects rooma roomb ball2 ball1 left right) (:init (room rooma) (room roomb) (ball ball2) (ball ball1) (at-robby rooma) (free left) (free right) (at ball2 rooma) (at ball1 rooma) (gripper left) (gripper right)) (:goal (and (at ball2 roomb) (at ball1 roomb))))
+four-balls: (define (problem strips-gripper-4) (:domain gripper-strips) (:objects rooma roomb ball4 ball3 ball2 ball1 left right) (:init (room rooma) (room roomb) (ball ball4) (ball ball3) (ball ball2) (ball ball1) (at-robby rooma) (free left) (free right) (at ball4 rooma) (at ball3 rooma) (at ball2 rooma) (at ball1 rooma) (gripper left) (gripper right)) (:goal (and (at ball4 roomb) (at ball3 roomb) (at ball2 roomb) (at ball1 roomb))))
+carry-all: inc p2 / inc p3 / test gripper p3 / goto 1 if zero / act pick p0 p1 p3 / act move p1 p2 / act drop p0 p2 p3 / act move p2 p1 / inc p0 / goto 4 if carry / end
+light-all: act light p0 / inc p0 / goto 0 if carry / end
 ";
-
-// Domains, and instances of them.
-const FILES: &[(&str, &str)] = &[
-    ("lights", LIGHTS),
-    ("renew", RENEW),
-    ("lit", LIT),
-    ("unlit", UNLIT),
-    ("two", TWO_UNLIT),
-    ("three", THREE_UNLIT),
-    ("corridor", CORRIDOR),
-    ("cells", THREE_CELLS),
-];
 
 // The words of a run, its program, and where it stands.
 const RUNS: &str = "\
@@ -111,10 +61,7 @@ fn runs_at_their_limit(rt: HostRuntime) -> Result<(), Fail> {
 }
 
 fn check_rows<R: Abort>(rt: &R, alloc: Global, rows: &str) -> Result<(), Fail> {
-    let mut shelf = MemoryShelf::new(alloc);
-    for (name, text) in FILES {
-        shelf.add(name.as_bytes(), text.as_bytes())?;
-    }
+    let mut shelf = shelf_of(alloc, RUN_FILES)?;
     for row in rows.lines() {
         let (words, rest) = row.split_once(": ").unwrap_or((row, ""));
         let (program, standing) = rest.split_once(": ").unwrap_or((rest, ""));
@@ -123,7 +70,7 @@ fn check_rows<R: Abort>(rt: &R, alloc: Global, rows: &str) -> Result<(), Fail> {
     Ok(())
 }
 
-// Checks where the run of the program `p` on one instance stands. The lines of the program are parted by ` / `.
+// Checks where the run of the program `p` on one instance stands.
 pub fn check_run<R: Abort>(
     rt: &R,
     alloc: Global,
@@ -134,67 +81,44 @@ pub fn check_run<R: Abort>(
 ) -> Result<(), Fail> {
     shelf.add(b"p", lines_of(alloc, program)?.as_bytes())?;
     let (status, solved) = if standing.starts_with("solved") {
-        (Status::Done, 1)
+        ("0", 1)
     } else {
-        (Status::No, 0)
+        ("1", 0)
     };
-    let report = format!(in alloc; "instance 0 {standing}\nsolved {solved} of 1\n")?;
-    check(rt, alloc, words, shelf, status, report.as_str())
+    let report = format!(in alloc; "instance 0 {standing}\nsolved {solved} of 1")?;
+    check(rt, alloc, shelf, status, words, report.as_str())
 }
 
-// The text of a program.
-fn lines_of(alloc: Global, program: &str) -> Result<String, AllocError> {
-    let mut lines = String::new(alloc);
-    for line in program.split(" / ") {
-        lines.push_str(line)?;
-        lines.push_str("\n")?;
-    }
-    Ok(lines)
-}
+// Each instance has its line.
+const REPORTS: &str = "\
+1 run --pointers 1 --program light-one lights lit two lit
+instance 0 solved 1
+instance 1 unmet 1 missing 1
+instance 2 solved 1
+solved 2 of 3
+
+0 run --pointers 1 --program light-all lights lit two
+instance 0 solved 3
+instance 1 solved 6
+solved 2 of 2
+
+0 run --pointers 4 --program carry-all gripper two-balls four-balls
+instance 0 solved 49
+instance 1 solved 67
+solved 2 of 2";
 
 #[test]
-fn each_instance_has_its_line(rt: HostRuntime) -> Result<(), Fail> {
-    let light_all = "act light p0\ninc p0\ngoto 0 if carry\nend\n";
-    for &(line, program, status, report) in &[
-        (
-            "run --pointers 1 --program p d l i l",
-            LIGHT_ONE,
-            Status::No,
-            "instance 0 solved 1\ninstance 1 unmet 1 missing 1\ninstance 2 solved 1\nsolved 2 of 3\n",
-        ),
-        (
-            "run --pointers 1 --program p d l i",
-            light_all,
-            Status::Done,
-            "instance 0 solved 3\ninstance 1 solved 6\nsolved 2 of 2\n",
-        ),
-    ] {
-        let mut shelf = shelf_with(rt.alloc(), LIGHTS, TWO_UNLIT, program)?;
-        shelf.add(b"l", LIT.as_bytes())?;
-        check(&rt, rt.alloc(), line, &mut shelf, status, report)?;
-    }
-    Ok(())
+fn reports_on_several_instances(rt: HostRuntime) -> Result<(), Fail> {
+    check_calls(&rt, rt.alloc(), RUN_FILES, REPORTS)
 }
 
 // Letters of either case, comments, empty lines, and a last line without its line feed.
 #[test]
 fn a_program_that_is_freely_written(rt: HostRuntime) -> Result<(), Fail> {
     let program = "; one light\r\n\r\n\tACT  light P0 ;on\r\nEnd";
-    let report = "instance 0 solved 1\nsolved 1 of 1\n";
-    let mut shelf = shelf_with(rt.alloc(), LIGHTS, UNLIT, program)?;
-    check(&rt, rt.alloc(), RUN, &mut shelf, Status::Done, report)
-}
-
-#[test]
-fn balls_are_carried(rt: HostRuntime) -> Result<(), Fail> {
-    let mut shelf = shelf_with(rt.alloc(), GRIPPER, TWO_BALLS, CARRY)?;
-    shelf.add(b"four", FOUR_BALLS.as_bytes())?;
-    check(
-        &rt,
-        rt.alloc(),
-        "run --pointers 4 --program p d i four",
-        &mut shelf,
-        Status::Done,
-        "instance 0 solved 49\ninstance 1 solved 67\nsolved 2 of 2\n",
-    )
+    let mut shelf = shelf_of(rt.alloc(), "")?;
+    shelf.add(b"p", program.as_bytes())?;
+    let words = "run --pointers 1 --program p lights unlit";
+    let report = "instance 0 solved 1\nsolved 1 of 1";
+    check(&rt, rt.alloc(), &mut shelf, "0", words, report)
 }

@@ -1,9 +1,16 @@
-use crate::calls::{check, shelf_with};
-use crate::given::{LIGHT_ONE, LIGHTS, LIT, USAGE};
-use bfgp_jobs::Status;
+use crate::calls::{check, shelf_of};
+use crate::given::USAGE;
 use std::alloc::Global;
 use std::process::Abort;
 use std::test::Fail;
+
+// The files that the words name.
+const NAMED: &str = "\
+d: (define (domain lights) (:predicates (lit ?x)) (:action light :parameters (?x) :effect (lit ?x)))
+i: (define (problem one) (:domain lights) (:objects a) (:init (lit a)) (:goal (lit a)))
+p: act light p0 / end
+a: bfgp answer 1 / pointers 1 / lines 1 / instances 1 / verdict program 1 / tree 1 / g / program / end / ends 0 0 / end of answer
+";
 
 // The first line has no words.
 const NO_JOB: &str = "\n\
@@ -56,11 +63,40 @@ fn words_that_are_no_run(rt: HostRuntime) -> Result<(), Fail> {
     check_usage(&rt, rt.alloc(), NO_RUN)
 }
 
+const NO_CHECK: &str = "\
+check
+check --pointers 1 --lines 1 --answer a d
+check --pointers 1 --lines 1 --answer d
+check --pointers 1 --lines 1 --answer
+check --pointers 1 --lines 1 d i
+check --lines 1 --pointers 1 --answer a d i
+check --answer a --pointers 1 --lines 1 d i
+check --pointers 1 --answer a --lines 1 d i
+check --pointers 1 --lines 1 d i --answer a
+check --pointers 1 --lines 0 --answer a d i
+check --pointers 1 --lines 17 --answer a d i
+check --pointers 1 --lines 01 --answer a d i
+check --pointers 0 --lines 1 --answer a d i
+check --pointers 5 --lines 1 --answer a d i
+check --pointers 1 --lines 1 --answer -a d i
+check --pointers 1 --lines 1 --answer  d i
+check --pointers 1 --lines 1 --answer a d -i
+check --pointers 1 --lines 1 --answer a  i
+check --pointers 1 --lines 1 --answer a --run 4 d i
+check --pointers 1 --lines 1 --answer a --answer a d i
+check --pointers 1 --lines 1 --answer a d i i i i i i i i i i i i i i i i i i i i i i i i i i i i i i i i i
+";
+
+#[test]
+fn words_that_are_no_check(rt: HostRuntime) -> Result<(), Fail> {
+    check_usage(&rt, rt.alloc(), NO_CHECK)
+}
+
 // Checks that each line gets the usage text, whatever files there are.
 fn check_usage<R: Abort>(rt: &R, alloc: Global, lines: &str) -> Result<(), Fail> {
-    let mut shelf = shelf_with(alloc, LIGHTS, LIT, LIGHT_ONE)?;
-    for line in lines.lines() {
-        check(rt, alloc, line, &mut shelf, Status::Usage, USAGE)?;
+    let mut shelf = shelf_of(alloc, NAMED)?;
+    for words in lines.lines() {
+        check(rt, alloc, &mut shelf, "2", words, USAGE)?;
     }
     Ok(())
 }

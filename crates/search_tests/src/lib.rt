@@ -3,7 +3,11 @@
 #![tactic(auto)]
 
 #[cfg(test)]
+mod answers;
+#[cfg(test)]
 mod counters;
+#[cfg(test)]
+mod marks;
 #[cfg(test)]
 mod programs;
 #[cfg(test)]

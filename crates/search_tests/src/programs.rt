@@ -4,56 +4,81 @@ use crate::counters::{Counters, Tally};
 use flag_rules::{Cond, OutOfMemory, Sign};
 use program_model::{Instr, Machine, Partial, alphabet_len, instr_at, rank_of};
 use std::alloc::Global;
+use std::test::Fail;
+
+// The instructions of the second of four lines, over two operations, in order.
+const ALPHABET: &str = "\
+Op(0)
+Op(1)
+Goto { target: 0, cond: Zero }
+Goto { target: 0, cond: Nonzero }
+Goto { target: 0, cond: Carry }
+Goto { target: 0, cond: Nocarry }
+Goto { target: 3, cond: Zero }
+Goto { target: 3, cond: Nonzero }
+Goto { target: 3, cond: Carry }
+Goto { target: 3, cond: Nocarry }
+";
 
 #[test]
-fn alphabets_are_in_order(rt: HostRuntime) {
-    let jump = |target: u8, cond: Cond| Instr::Goto { target, cond };
-    let expected = [
-        Instr::Op(0),
-        Instr::Op(1),
-        jump(0, Cond::Zero),
-        jump(0, Cond::Nonzero),
-        jump(0, Cond::Carry),
-        jump(0, Cond::Nocarry),
-        jump(3, Cond::Zero),
-        jump(3, Cond::Nonzero),
-        jump(3, Cond::Carry),
-        jump(3, Cond::Nocarry),
-    ];
-    let len = alphabet_len(2, 4, 1);
-    assert_eq!(rt; len, 10);
-    for rank in 0..len {
-        assert_eq!(rt; instr_at(2, 4, 1, rank), expected[rank as usize]);
-        assert_eq!(rt; rank_of(2, 4, 1, expected[rank as usize]), Some(rank));
+fn alphabets_are_in_order(rt: HostRuntime) -> Result<(), Fail> {
+    let mut alphabet = String::new(rt.alloc());
+    for rank in 0..alphabet_len(2, 4, 1) {
+        let instr = instr_at(2, 4, 1, rank);
+        assert_eq!(rt; rank_of(2, 4, 1, instr), Some(rank));
+        writeln!(alphabet, "{instr:?}")?;
     }
-    for other in [
-        Instr::Op(2),
-        Instr::End,
-        jump(1, Cond::Zero),
-        jump(2, Cond::Zero),
-        jump(4, Cond::Zero),
-    ] {
-        assert_eq!(rt; rank_of(2, 4, 1, other), None);
+    assert_eq!(rt; alphabet.as_str(), ALPHABET);
+    Ok(())
+}
+
+// The ranks of jumps to each line, and of what is in the alphabet of no such line.
+#[test]
+fn ranks_are_those_of_the_alphabet(rt: HostRuntime) -> Result<(), Fail> {
+    let mut ranks = String::new(rt.alloc());
+    for target in 0..6 {
+        let cond = Cond::Zero;
+        let rank = rank_of(2, 4, 1, Instr::Goto { target, cond });
+        write!(ranks, "{rank:?} ")?;
     }
-    assert_eq!(rt; instr_at(2, 4, 3, 0), Instr::End);
+    let operation = rank_of(2, 4, 1, Instr::Op(2));
+    let end = rank_of(2, 4, 1, Instr::End);
+    write!(ranks, "{operation:?} {end:?}")?;
+    assert_eq!(rt;
+        ranks.as_str(),
+        "Some(2) None None Some(6) None None None None"
+    );
+    Ok(())
 }
 
 #[test]
-fn lines_are_defined_and_undefined(rt: HostRuntime) {
+fn the_last_line_ends(rt: HostRuntime) {
+    assert_eq!(rt; instr_at(2, 4, 3, 0), Instr::End);
+}
+
+// The lines of a copy, and those of the program, of which one was undefined afterwards.
+const LINES: &str = "\
+None None
+Some(Op(7)) None
+Some(End) Some(End)
+None None
+";
+
+#[test]
+fn lines_are_defined_and_undefined(rt: HostRuntime) -> Result<(), Fail> {
     let mut partial = Partial::empty(3);
     partial.define(1, Instr::Op(7));
     let copy = partial.copy();
     partial.undefine(1);
     assert_eq!(rt; partial.lines(), 3);
-    for (line, was, is) in [
-        (0, None, None),
-        (1, Some(Instr::Op(7)), None),
-        (2, Some(Instr::End), Some(Instr::End)),
-        (3, None, None),
-    ] {
-        assert_eq!(rt; copy.at(line), was);
-        assert_eq!(rt; partial.at(line), is);
+    let mut lines = String::new(rt.alloc());
+    for line in 0..4 {
+        let was = copy.at(line);
+        let is = partial.at(line);
+        writeln!(lines, "{was:?} {is:?}")?;
     }
+    assert_eq!(rt; lines.as_str(), LINES);
+    Ok(())
 }
 
 // Makes the last operation at the start of an instance, and tells the sign, how much is missing at the start, and whether a
