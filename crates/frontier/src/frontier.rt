@@ -74,6 +74,8 @@ impl<R: Ranking> Frontier<R> {
         ensures spare { self.new.spare + 1 ≡ self.old.spare }
         ensures compared { RoseWithin (length self.old.pairs) (R.compared tally.old) (R.compared tally.new) }
     {
+        // So the ranks fit.
+        prove!(self.nodes.len() < self.nodes.capacity());
         let place = self.nodes.insert_reserved(Node {
             key,
             number,

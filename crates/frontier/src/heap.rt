@@ -1,4 +1,5 @@
-ghost use Rattle.std.specs.Prelude.{◌≡◌, ◌+◌, ◌<◌, ◌^◌, ℕ, Some, IsSome, ForSome, if◌then◌else◌};
+ghost use Rattle.std.specs.Prelude.{◌≡◌, ◌+◌, ◌<◌, ◌^◌, ℕ, Some, if◌then◌else◌};
+ghost use Rattle.std.specs.Option.{ForSome};
 ghost use Rattle.slab.specs.Slab.{get, ContainsKey, with_value};
 ghost use Rattle.flag_rules.specs.Counts.{counted};
 ghost use Rattle.frontier.specs.Inner.Tree.{Tree};
@@ -41,7 +42,12 @@ fn hang<K>(nodes: &mut Slab<Node<K>>, top: usize, heap: Option<usize>)
 }
 
 /// Two nodes, the one first whose pair comes before the other's.
-fn in_order<R: Ranking>(nodes: &Slab<Node<R::Key>>, one: usize, other: usize, tally: &mut R::Tally) -> (usize, usize)
+fn in_order<R: Ranking>(
+    nodes: &Slab<Node<R::Key>>,
+    one: usize,
+    other: usize,
+    tally: &mut R::Tally,
+) -> (usize, usize)
     requires one { ContainsKey nodes.now one }
     requires other { ContainsKey nodes.now other }
     ensures compared { R.compared tally.new ≡ counted (R.compared tally.old) }
@@ -57,7 +63,12 @@ fn in_order<R: Ranking>(nodes: &Slab<Node<R::Key>>, one: usize, other: usize, ta
 }
 
 /// Merges two heaps that stand apart, with at most one comparison for each node of their right spines.
-pub(crate) fn merge<R: Ranking>(nodes: &mut Slab<Node<R::Key>>, one: Option<usize>, other: Option<usize>, tally: &mut R::Tally) -> Option<usize>
+pub(crate) fn merge<R: Ranking>(
+    nodes: &mut Slab<Node<R::Key>>,
+    one: Option<usize>,
+    other: Option<usize>,
+    tally: &mut R::Tally,
+) -> Option<usize>
     requires { CanMerge R.comes_before nodes.old.slots one other }
     ensures merged { (first second : Tree R.Key) → Apart R.comes_before nodes.old.slots one other first second →
         Merges R.comes_before nodes.old.slots nodes.new.slots first second result (R.compared tally.old) (R.compared tally.new) }
@@ -65,7 +76,8 @@ pub(crate) fn merge<R: Ranking>(nodes: &mut Slab<Node<R::Key>>, one: Option<usiz
     ensures capacity { nodes.new.capacity ≡ nodes.old.capacity }
 {
     match (one, other) {
-        (None, heap) | (heap, None) => heap,
+        (None, _) => other,
+        (_, None) => one,
         (Some(first), Some(second)) => {
             let (top, below) = in_order::<R>(nodes, first, second, tally);
             let right = nodes[top].right;

@@ -1,5 +1,5 @@
 -- How heaps stand in a slab.
-use Rattle.std.specs.Prelude.{◌≡◌, ◌≢◌, ℕ, ◌+◌, ◌<◌, ◌≤◌, ◌^◌, nat_lt, Bool, List, map, filter_map, slice_index_or, Option, Some, None, is_some, if◌then◌else◌, option_map}
+use Rattle.std.specs.Prelude.{◌≡◌, ℕ, ◌+◌, ◌<◌, ◌≤◌, ◌^◌, nat_lt, Bool, List, map, filter_map, slice_index_or, Option, Some, None, is_some, if◌then◌else◌, option_map}
 use Rattle.flag_rules.specs.Counts.{raised}
 use Rattle.slab.specs.Slab.{Slab, get, slab_len}
 use Rattle.frontier.specs.declared.node.Node.{Node}
@@ -78,13 +78,18 @@ module _ {K : Type 0} (before : K → ℕ → K → ℕ → Bool) where
     pub others : (place : ℕ) → reached place first + reached place second ≡ 0 → slice_index_or new place None ≡ slice_index_or old place None
     pub rose : now ≡ raised counted passed
 
-  -- a slab is a leftist heap: from its root each node is reached once, and each comes before its children
-  pub record IsHeap (nodes : Slab (Node K)) (top : Option ℕ) : Type 0 where
-    pub tree : Tree K
+  -- a slab is this leftist heap: from the root each of its nodes is reached once, and no other place
+  pub record IsHeapOf (nodes : Slab (Node K)) (top : Option ℕ) (tree : Tree K) : Type 0 where
     pub root_is : root tree ≡ top
     pub stands : Stands nodes.slots tree
     pub is_leftist : IsLeftist tree
     pub is_ordered : IsOrdered before tree
-    pub counted : size tree ≡ slab_len nodes
     pub once : (place : ℕ) → reached place tree ≡ (if is_some (get nodes place) then 1 else 0)
+    pub counted : size tree ≡ slab_len nodes
+    pub small : slab_len nodes < 2 ^ 64
     pub differ : NumbersDiffer nodes.slots
+
+  -- a slab is a leftist heap from this root
+  pub record IsHeap (nodes : Slab (Node K)) (top : Option ℕ) : Type 0 where
+    pub tree : Tree K
+    pub is : IsHeapOf nodes top tree

@@ -1,5 +1,5 @@
 -- Leftist heaps as trees.
-use Rattle.std.specs.Prelude.{◌≡◌, ℕ, suc, ◌+◌, ◌≤◌, ◌==◌, nat_lt, Bool, true, Option, Some, None, if◌then◌else◌}
+use Rattle.std.specs.Prelude.{◌≡◌, ℕ, suc, ◌+◌, ◌<◌, ◌≤◌, ◌==◌, nat_lt, Bool, true, Option, Some, None, if◌then◌else◌}
 
 -- a heap: for each node its place in the slab, its pair of a key and a number, and the heaps at its left and right child
 pub data Tree (K : Type 0) : Type 0 where
@@ -47,9 +47,9 @@ module _ {K : Type 0} (before : K → ℕ → K → ℕ → Bool) where
   IsOrdered none = Unit {0}
   IsOrdered (node place pair left right) = ComesBefore pair left × ComesBefore pair right × IsOrdered left × IsOrdered right
 
-  -- a heap is two heaps merged along their right spines, with so many comparisons
+  -- a heap is two heaps merged along their right spines, with so many comparisons of two roots
   pub data Merged : Tree K → Tree K → Tree K → ℕ → Type 0 where
     at_right : (second : Tree K) → Merged none second second 0
     at_left : (first : Tree K) → Merged first none first 0
-    under_first : (place : ℕ) (pair : K × ℕ) (left right second merged : Tree K) (passed : ℕ) → ComesBefore pair second → Merged right second merged passed → Merged (node place pair left right) second (join place pair left merged) (suc passed)
-    under_second : (place : ℕ) (pair : K × ℕ) (left right first merged : Tree K) (passed : ℕ) → ComesBefore pair first → Merged right first merged passed → Merged first (node place pair left right) (join place pair left merged) (suc passed)
+    under_first : (place : ℕ) (pair : K × ℕ) (left right second merged : Tree K) (passed : ℕ) → 0 < rank second → ComesBefore pair second → Merged right second merged passed → Merged (node place pair left right) second (join place pair left merged) (suc passed)
+    under_second : (place : ℕ) (pair : K × ℕ) (left right first merged : Tree K) (passed : ℕ) → 0 < rank first → ComesBefore pair first → Merged right first merged passed → Merged first (node place pair left right) (join place pair left merged) (suc passed)
