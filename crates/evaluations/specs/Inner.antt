@@ -1,0 +1,2 @@
+-- What only private functions and laws cite.
+pub mod KeyOrder

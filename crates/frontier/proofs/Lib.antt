@@ -1,0 +1,5 @@
+pub mod Trees
+pub mod Slots
+pub mod Places
+pub mod Merging
+pub mod Holding
