@@ -3,7 +3,7 @@
 use crate::calls::{check_calls, shelf_of};
 use crate::changes::{answers, check_changes};
 use crate::given::{LIT_IN_TWO_LINES, not_in_three_lines};
-use crate::single_changes::SINGLE_CHANGES;
+use crate::single_changes::{MARKS_THAT_REFUTE_NOTHING, SINGLE_CHANGES};
 use std::test::Fail;
 
 // The words of a check of the document that one light is lit.
@@ -56,12 +56,29 @@ fn changes_of_one_lit(rt: HostRuntime) -> Result<(), Fail> {
     )
 }
 
+// The words of a check of the document that two lights are not lit.
+const CHECK_TWO: &str = "check --pointers 1 --lines 3 --answer answer lights two";
+
 // Each number one up and one down, and each letter replaced by every other one.
 #[test]
 fn single_changes_of_two_not_lit(rt: HostRuntime) -> Result<(), Fail> {
+    assert_eq!(rt; SINGLE_CHANGES.lines().count(), 824);
     let document = not_in_three_lines(rt.alloc(), 1)?;
-    let words = "check --pointers 1 --lines 3 --answer answer lights two";
-    check_changes(&rt, rt.alloc(), words, document.as_str(), SINGLE_CHANGES)
+    check_changes(
+        &rt,
+        rt.alloc(),
+        CHECK_TWO,
+        document.as_str(),
+        SINGLE_CHANGES,
+    )
+}
+
+#[test]
+fn marks_of_two_not_lit_that_refute_nothing(rt: HostRuntime) -> Result<(), Fail> {
+    assert_eq!(rt; MARKS_THAT_REFUTE_NOTHING.lines().count(), 320);
+    let document = not_in_three_lines(rt.alloc(), 1)?;
+    let changes = MARKS_THAT_REFUTE_NOTHING;
+    check_changes(&rt, rt.alloc(), CHECK_TWO, document.as_str(), changes)
 }
 
 // Other steps at which a run repeats, and what is so of the second instance.

@@ -828,3 +828,327 @@ pub const SINGLE_CHANGES: &str = "\
 88 f 0 2: rejected
 88 f 0 0: rejected
 ";
+
+/// A mark that refutes nothing in the place of each mark of that document, in the same form.
+pub const MARKS_THAT_REFUTE_NOTHING: &str = "\
+7 t: rejected
+7 o: rejected
+7 g: rejected
+7 r 0: rejected
+9 t: rejected
+9 o: rejected
+9 g: rejected
+9 r 0: rejected
+10 t: rejected
+10 o: rejected
+10 g: rejected
+10 r 0: rejected
+11 t: rejected
+11 o: rejected
+11 g: rejected
+11 r 0: rejected
+12 t: rejected
+12 o: rejected
+12 g: rejected
+12 r 0: rejected
+13 t: rejected
+13 o: rejected
+13 g: rejected
+13 r 0: rejected
+14 t: rejected
+14 o: rejected
+14 g: rejected
+14 r 0: rejected
+16 t: rejected
+16 o: rejected
+16 g: rejected
+16 r 0: rejected
+17 t: rejected
+17 o: rejected
+17 g: rejected
+17 r 0: rejected
+18 t: rejected
+18 o: rejected
+18 g: rejected
+18 r 0: rejected
+19 t: rejected
+19 o: rejected
+19 g: rejected
+19 r 0: rejected
+20 t: rejected
+20 o: rejected
+20 g: rejected
+20 r 0: rejected
+21 t: rejected
+21 o: rejected
+21 g: rejected
+21 r 0: rejected
+22 t: rejected
+22 o: rejected
+22 g: rejected
+22 r 0: rejected
+23 t: rejected
+23 o: rejected
+23 g: rejected
+23 r 0: rejected
+24 t: rejected
+24 o: rejected
+24 g: rejected
+24 r 0: rejected
+25 t: rejected
+25 o: rejected
+25 g: rejected
+25 r 0: rejected
+26 t: rejected
+26 o: rejected
+26 g: rejected
+26 r 0: rejected
+27 t: rejected
+27 o: rejected
+27 g: rejected
+27 r 0: rejected
+28 t: rejected
+28 o: rejected
+28 g: rejected
+28 r 0: rejected
+29 t: rejected
+29 o: rejected
+29 g: rejected
+29 r 0: rejected
+30 t: rejected
+30 o: rejected
+30 g: rejected
+30 r 0: rejected
+31 t: rejected
+31 o: rejected
+31 g: rejected
+31 r 0: rejected
+32 t: rejected
+32 o: rejected
+32 g: rejected
+32 r 0: rejected
+33 t: rejected
+33 o: rejected
+33 g: rejected
+33 r 0: rejected
+34 t: rejected
+34 o: rejected
+34 g: rejected
+34 r 0: rejected
+35 t: rejected
+35 o: rejected
+35 g: rejected
+35 r 0: rejected
+36 t: rejected
+36 o: rejected
+36 g: rejected
+36 r 0: rejected
+37 t: rejected
+37 o: rejected
+37 g: rejected
+37 r 0: rejected
+38 t: rejected
+38 o: rejected
+38 g: rejected
+38 r 0: rejected
+39 t: rejected
+39 o: rejected
+39 g: rejected
+39 r 0: rejected
+40 t: rejected
+40 o: rejected
+40 g: rejected
+40 r 0: rejected
+41 t: rejected
+41 o: rejected
+41 g: rejected
+41 r 0: rejected
+42 t: rejected
+42 o: rejected
+42 g: rejected
+42 r 0: rejected
+43 t: rejected
+43 o: rejected
+43 g: rejected
+43 r 0: rejected
+44 t: rejected
+44 o: rejected
+44 g: rejected
+44 r 0: rejected
+45 t: rejected
+45 o: rejected
+45 g: rejected
+45 r 0: rejected
+46 t: rejected
+46 o: rejected
+46 g: rejected
+46 r 0: rejected
+47 t: rejected
+47 o: rejected
+47 g: rejected
+47 r 0: rejected
+48 t: rejected
+48 o: rejected
+48 g: rejected
+48 r 0: rejected
+49 t: rejected
+49 o: rejected
+49 g: rejected
+49 r 0: rejected
+50 t: rejected
+50 o: rejected
+50 g: rejected
+50 r 0: rejected
+51 t: rejected
+51 o: rejected
+51 g: rejected
+51 r 0: rejected
+52 t: rejected
+52 o: rejected
+52 g: rejected
+52 r 0: rejected
+53 t: rejected
+53 o: rejected
+53 g: rejected
+53 r 0: rejected
+54 t: rejected
+54 o: rejected
+54 g: rejected
+54 r 0: rejected
+55 t: rejected
+55 o: rejected
+55 g: rejected
+55 r 0: rejected
+56 t: rejected
+56 o: rejected
+56 g: rejected
+56 r 0: rejected
+57 t: rejected
+57 o: rejected
+57 g: rejected
+57 r 0: rejected
+58 t: rejected
+58 o: rejected
+58 g: rejected
+58 r 0: rejected
+59 t: rejected
+59 o: rejected
+59 g: rejected
+59 r 0: rejected
+60 t: rejected
+60 o: rejected
+60 g: rejected
+60 r 0: rejected
+61 t: rejected
+61 o: rejected
+61 g: rejected
+61 r 0: rejected
+62 t: rejected
+62 o: rejected
+62 g: rejected
+62 r 0: rejected
+63 t: rejected
+63 o: rejected
+63 g: rejected
+63 r 0: rejected
+64 t: rejected
+64 o: rejected
+64 g: rejected
+64 r 0: rejected
+65 t: rejected
+65 o: rejected
+65 g: rejected
+65 r 0: rejected
+66 t: rejected
+66 o: rejected
+66 g: rejected
+66 r 0: rejected
+67 t: rejected
+67 o: rejected
+67 g: rejected
+67 r 0: rejected
+68 t: rejected
+68 o: rejected
+68 g: rejected
+68 r 0: rejected
+69 t: rejected
+69 o: rejected
+69 g: rejected
+69 r 0: rejected
+70 t: rejected
+70 o: rejected
+70 g: rejected
+70 r 0: rejected
+71 t: rejected
+71 o: rejected
+71 g: rejected
+71 r 0: rejected
+72 t: rejected
+72 o: rejected
+72 g: rejected
+72 r 0: rejected
+73 t: rejected
+73 o: rejected
+73 g: rejected
+73 r 0: rejected
+74 t: rejected
+74 o: rejected
+74 g: rejected
+74 r 0: rejected
+75 t: rejected
+75 o: rejected
+75 g: rejected
+75 r 0: rejected
+76 t: rejected
+76 o: rejected
+76 g: rejected
+76 r 0: rejected
+77 t: rejected
+77 o: rejected
+77 g: rejected
+77 r 0: rejected
+78 t: rejected
+78 o: rejected
+78 g: rejected
+78 r 0: rejected
+79 t: rejected
+79 o: rejected
+79 g: rejected
+79 r 0: rejected
+80 t: rejected
+80 o: rejected
+80 g: rejected
+80 r 0: rejected
+81 t: rejected
+81 o: rejected
+81 g: rejected
+81 r 0: rejected
+82 t: rejected
+82 o: rejected
+82 g: rejected
+82 r 0: rejected
+83 t: rejected
+83 o: rejected
+83 g: rejected
+83 r 0: rejected
+84 t: rejected
+84 o: rejected
+84 g: rejected
+84 r 0: rejected
+85 t: rejected
+85 o: rejected
+85 g: rejected
+85 r 0: rejected
+86 t: rejected
+86 o: rejected
+86 g: rejected
+86 r 0: rejected
+87 t: rejected
+87 o: rejected
+87 g: rejected
+87 r 0: rejected
+88 t: rejected
+88 o: rejected
+88 g: rejected
+88 r 0: rejected
+";

@@ -3,7 +3,9 @@
 use crate::checks::check_text;
 use crate::texts::{DOMAIN, domain_text, problem_text};
 use flag_rules::List;
-use pddl_parser::{ActionText, AtomText, DomainText, PredText, ProblemText, Typed, TypedWords, Word};
+use pddl_parser::{
+    ActionText, AtomText, DomainText, PredText, ProblemText, Typed, TypedWords, Word,
+};
 use std::alloc::{AllocError, Global};
 use std::test::Fail;
 

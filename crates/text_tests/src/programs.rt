@@ -73,11 +73,19 @@ fn write_again(
     Ok(write_program(sink, names, &program).is_ok())
 }
 
+// That a program was put, where there is one.
+fn put_of(want: Result<&str, ProgramRefusal>) -> Result<bool, ProgramRefusal> {
+    match want {
+        Ok(_) => Ok(true),
+        Err(refusal) => Err(refusal),
+    }
+}
+
 fn check_row<R: Abort>(rt: &R, alloc: Global, names: &Names, row: Row) -> Result<(), Fail> {
     let (text, want) = row;
     let mut sink = sink_of(alloc, 7)?;
-    let refusal = write_again(alloc, names, text, &mut sink).err();
-    check_reply(rt, text, &refusal, &want.err());
+    let is_put = write_again(alloc, names, text, &mut sink);
+    check_reply(rt, text, &is_put, &put_of(want));
     check_written(rt, &sink, want.unwrap_or(""));
     Ok(())
 }
