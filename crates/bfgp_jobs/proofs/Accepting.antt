@@ -31,10 +31,10 @@ search_comes words files job reply is verdict due =
 
 module _ (files : Files) (job : SynthJob) (is_job : IsSynthJob job) (reply : Reply) (known : Answered files job reply) where
   -- its text is the document of an accepted answer
-  text_accepted : IsAcceptedDocument (posed_parts known.posed.task known.posed.instances job.pointers) job.lines reply.text
+  text_accepted : IsAcceptedDocument (posed_parts known.posed.task known.posed.instances job.pointers) job.bounds.lines reply.text
   text_accepted =
       let parts = posed_parts known.posed.task known.posed.instances job.pointers in
-      subst (λ (text : List ℕ). IsAcceptedDocument parts job.lines text) (sym (ap (λ (r : Reply). r.text) known.is)) (record {
+      subst (λ (text : List ℕ). IsAcceptedDocument parts job.bounds.lines text) (sym (ap (λ (r : Reply). r.text) known.is)) (record {
         answer = known.found;
         says = document_says files job is_job reply known;
         accepted = answer_accepted files job is_job reply known;
@@ -46,7 +46,7 @@ module _ (files : Files) (job : SynthJob) (is_job : IsSynthJob job) (reply : Rep
       let made : machine_due later job.inputs job.pointers (Ok known.machine) = machine_kept files later job.inputs job.pointers (Ok known.machine) holds.kept known.made in
       let read : file_due later MAX_DOCUMENT_BYTES name (Ok reply.text) =
       subst (λ (held : Option (List ℕ)). Ok reply.text ≡ whole_of held MAX_DOCUMENT_BYTES) (sym holds.holds) (short_whole reply.text MAX_DOCUMENT_BYTES short) in
-      let is : IsAcceptedDocument known.machine job.lines reply.text = subst (λ (m : MachineParts). IsAcceptedDocument m job.lines reply.text) (sym known.machine_is) text_accepted in
+      let is : IsAcceptedDocument known.machine job.bounds.lines reply.text = subst (λ (m : MachineParts). IsAcceptedDocument m job.bounds.lines reply.text) (sym known.machine_is) text_accepted in
       goes_on made (goes_on read (accepted is))
 
 -- what was written of a reply that is due

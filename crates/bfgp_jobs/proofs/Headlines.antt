@@ -31,10 +31,10 @@ use Rattle.refutation_tree.proofs.Covering.{nobody_is_fair}
 use Rattle.refutation_tree.proofs.Holding.{accepted_least, accepted_none, accepted_spent}
 use Rattle.answer_writer.specs.Document.{document}
 use Rattle.answer_reader.specs.Reading.{IsDocument}
-use Rattle.synthesis.specs.declared.bounds.TheConstants.{BUDGET, RUN_LIMIT}
-use Rattle.synthesis.specs.Search.{plain}
-use Rattle.synthesis.specs.Answers.{IsAnswer}
+use Rattle.synthesis.specs.BestFirst.{best_first, IsBestFirstAnswer}
 use Rattle.synthesis.proofs.Accepting.{searched_accepted}
+use Rattle.synthesis.proofs.SpentBudgets.{spent_budget_shown}
+use Rattle.synthesis.proofs.SpentRuns.{spent_run_shown}
 use Rattle.command_words.specs.declared.job.Job.{Job}
 use Rattle.command_words.specs.declared.job.Job.TheVariants.{Synth, Check, Run}
 use Rattle.command_words.specs.declared.job.SynthJob.{SynthJob}
@@ -52,7 +52,7 @@ use Rattle.bfgp_jobs.specs.declared.status.Status.{Status}
 use Rattle.bfgp_jobs.specs.declared.status.Status.TheVariants.{Done, No, Usage, Input, SpentExpansions, SpentRun, ReadFault, WriteFault, OutOfMemory}
 use Rattle.bfgp_jobs.specs.Reply.{Reply}
 use Rattle.bfgp_jobs.specs.Due.{Due, answer, fault, usage, synth_due, check_due, run_due, job_due, status_of, report_status, VerdictDue, accepted, rejected}
-use Rattle.bfgp_jobs.specs.Headline.{Headline, Succeeds, Refutes, posed_parts, posed_machine, NoneShorter, NoneSolvesEach, GivesLeast, Shows, SaysAnswer, FindsLeast, RefutesAll, PosesCheck, DocumentShows, DocumentFails, PosesProgram, ProgramSolves, ProgramFails}
+use Rattle.bfgp_jobs.specs.Headline.{Headline, Succeeds, Refutes, posed_parts, posed_machine, NoneShorter, NoneSolvesEach, GivesLeast, Shows, SaysAnswer, FindsLeast, RefutesAll, SpendsBudgetOf, SpendsRunOf, PosesCheck, DocumentShows, DocumentFails, PosesProgram, ProgramSolves, ProgramFails}
 use Rattle.bfgp_jobs.specs.Inner.Replying.{Writes}
 use Rattle.bfgp_jobs.proofs.Checks.{one_document}
 use Rattle.bfgp_jobs.proofs.Runs.{program_over}
@@ -110,7 +110,7 @@ pub record Answered (files : Files) (job : SynthJob) (reply : Reply) : Type 0 wh
   pub machine_is : machine ≡ posed_parts posed.task posed.instances job.pointers
   fit : AreFit posed.task posed.instances
   pub found : Answer
-  is_answer : IsAnswer (plain (posed_machine posed.task posed.instances job.pointers) RUN_LIMIT) BUDGET job.lines found
+  is_answer : IsBestFirstAnswer (posed_machine posed.task posed.instances job.pointers) job.bounds found
   pub is : reply ≡ record { status = status_of found.outcome; text = document (operation_texts posed.task job.pointers) found }
   named : AreNames (operation_texts posed.task job.pointers)
 
@@ -124,7 +124,7 @@ answered files job reply is_job (goes_on {a = machine} made found) =
       machine_is = held.is;
       fit = held.fit;
       found = found.0;
-      is_answer = subst (λ (m : MachineParts). IsAnswer (plain (meaning_of m) RUN_LIMIT) BUDGET job.lines found.0) held.is found.1;
+      is_answer = subst (λ (m : MachineParts). IsBestFirstAnswer (meaning_of m) job.bounds found.0) held.is found.1;
       is = subst (λ (m : MachineParts). reply ≡ record { status = status_of found.0.outcome; text = document (operation_texts m.task m.pointers) found.0 }) held.is found.2;
       named = operations-named held.posed.task job.pointers held.is_task is_job.some_pointers is_job.few_pointers held.few;
     }
@@ -142,12 +142,24 @@ no_is outcomes.Nothing refuted = refl
 no_is (outcomes.SpentExpansions size) refuted = absurd (cc)
 no_is (outcomes.SpentRun size t) refuted = absurd (cc)
 
+budget_is : (outcome : Outcome) → status_of outcome ≡ SpentExpansions → (size : ℕ) × (outcome ≡ outcomes.SpentExpansions size)
+budget_is (outcomes.Program size) spent = absurd (cc)
+budget_is outcomes.Nothing spent = absurd (cc)
+budget_is (outcomes.SpentExpansions size) spent = (size, refl)
+budget_is (outcomes.SpentRun size t) spent = absurd (cc)
+
+run_is : (outcome : Outcome) → status_of outcome ≡ SpentRun → (size t : ℕ) × (outcome ≡ outcomes.SpentRun size t)
+run_is (outcomes.Program size) spent = absurd (cc)
+run_is outcomes.Nothing spent = absurd (cc)
+run_is (outcomes.SpentExpansions size) spent = absurd (cc)
+run_is (outcomes.SpentRun size t) spent = (size, t, refl)
+
 module _ (files : Files) (job : SynthJob) (is_job : IsSynthJob job) (reply : Reply) (known : Answered files job reply) where
   abbrev machine : Semantics Pointing
   machine = posed_machine known.posed.task known.posed.instances job.pointers
 
   abbrev lines : ℕ
-  lines = job.lines
+  lines = job.bounds.lines
 
   abbrev texts : List (List ℕ)
   texts = operation_texts known.posed.task job.pointers
@@ -162,11 +174,12 @@ module _ (files : Files) (job : SynthJob) (is_job : IsSynthJob job) (reply : Rep
       let tables = length-map known.posed.instances (ground_of known.posed.task) in
       let given = AllZip-long (HoldsInstance files known.posed.domain) job.inputs.instances known.posed.instances known.posed.instances_are in
       let inputs = is_job.inputs in
-      searched_accepted (plain machine RUN_LIMIT) BUDGET (omega arith) (omega arith) lines known.found
+      let within = is_job.bounds in
+      searched_accepted (best_first machine job.bounds) job.bounds.budget (omega (arith, within.few_splits)) (omega (arith, within.few_steps)) lines known.found
       (omega (arith, count, is_job.some_pointers))
       (is_job.some_pointers, is_job.few_pointers)
       (omega (arith, tables, given, inputs.some_instances), omega (arith, tables, given, inputs.few_instances))
-      (is_job.some_lines, omega (arith, is_job.few_lines))
+      (within.some_lines, within.few_lines)
       known.is_answer
 
   -- the document says it
@@ -204,6 +217,39 @@ module _ (files : Files) (job : SynthJob) (is_job : IsSynthJob job) (reply : Rep
         answer = known.found;
         nothing = outcome;
         no_program = (subst (FitsOutcome machine.ops known.found) outcome answer_accepted.grammatical.outcome).0;
+        searched = known.is_answer;
+        written = writes_answer old new appended;
+      }
+
+  -- with status 4 the budget is spent
+  spends_budget : (old new : Option (List ℕ)) → reply.status ≡ SpentExpansions → Appends old new reply.text → SpendsBudgetOf job files old new
+  spends_budget old new spent appended =
+      let outcome = budget_is known.found.outcome (sym (ap (λ (r : Reply). r.status) known.is) ∙ spent) in
+      record {
+        posed = known.posed;
+        answer = known.found;
+        size = outcome.0;
+        says = outcome.1;
+        spends = spent_budget_shown (best_first machine job.bounds) job.bounds.budget lines outcome.0 known.found known.is_answer outcome.1;
+        none = none_shorter known.posed.task known.posed.instances job.pointers lines known.fit known.found answer_accepted outcome.0 (subst (IsSpentAt outcome.0) (sym outcome.1) refl);
+        no_program = (subst (FitsOutcome machine.ops known.found) outcome.1 answer_accepted.grammatical.outcome).0;
+        searched = known.is_answer;
+        written = writes_answer old new appended;
+      }
+
+  -- with status 5 a run is at its limit
+  spends_run : (old new : Option (List ℕ)) → reply.status ≡ SpentRun → Appends old new reply.text → SpendsRunOf job files old new
+  spends_run old new spent appended =
+      let outcome = run_is known.found.outcome (sym (ap (λ (r : Reply). r.status) known.is) ∙ spent) in
+      record {
+        posed = known.posed;
+        answer = known.found;
+        size = outcome.0;
+        t = outcome.1;
+        says = outcome.2;
+        spends = spent_run_shown (best_first machine job.bounds) job.bounds.budget lines outcome.0 outcome.1 known.found known.is_answer outcome.2;
+        none = none_shorter known.posed.task known.posed.instances job.pointers lines known.fit known.found answer_accepted outcome.0 (subst (IsSpentAt outcome.0) (sym outcome.2) refl);
+        no_program = (subst (FitsOutcome machine.ops known.found) outcome.2 answer_accepted.grammatical.outcome).1.0;
         searched = known.is_answer;
         written = writes_answer old new appended;
       }
@@ -310,6 +356,26 @@ module _ (files : Files) (job : RunJob) (reply : Reply) (known : Reported files 
         fails = fails_one known.posed.task known.posed.instances job.pointers known.fit known.program job.run one.t one.within one.fails;
       }
 
+-- ---- the statuses of `check` and `run`
+abbrev IsYesOrNo : Status → Type 0
+IsYesOrNo Done = Unit {0}
+IsYesOrNo No = Unit {0}
+IsYesOrNo _ = ⊥
+
+verdict_status : (machine : MachineParts) (lines : ℕ) (bytes : List ℕ) (reply : Reply) → VerdictDue machine lines bytes (Ok reply) → IsYesOrNo reply.status
+verdict_status _ _ _ _ (accepted is) = tt
+verdict_status _ _ _ _ (rejected none) = tt
+
+solved_status : (all_solved : Bool) → IsYesOrNo (report_status all_solved)
+solved_status true = tt
+solved_status false = tt
+
+checked_status : (files : Files) (job : CheckJob) (reply : Reply) → check_due files job (Ok reply) → IsYesOrNo reply.status
+checked_status files job reply (goes_on {a = machine} made (goes_on {a = bytes} read verdict)) = verdict_status machine job.lines bytes reply verdict
+
+run_status : (files : Files) (job : RunJob) (reply : Reply) → run_due files job (Ok reply) → IsYesOrNo reply.status
+run_status files job reply here = let known = reported files job reply here in subst IsYesOrNo (sym known.status_is) (solved_status known.report.all_solved)
+
 -- ---- the headline
 -- with status 0
 succeeds : (files : Files) (job : Job) (reply : Reply) (old new : Option (List ℕ)) → IsJob job → job_due files job (Ok reply) → reply.status ≡ Done → Appends old new reply.text → Succeeds job files old new
@@ -322,6 +388,22 @@ refuted : (files : Files) (job : Job) (reply : Reply) (old new : Option (List �
 refuted files (Synth job) reply old new is_job here status appended = refutes files job is_job reply (answered files job reply is_job here) old new status appended
 refuted files (Check job) reply old new is_job here status appended = let known = checked files job reply is_job here in document_fails files job known.poses known.fit known.named reply known.verdict status
 refuted files (Run job) reply old new is_job here status appended = program_fails files job reply (reported files job reply here) status
+
+-- with status 4
+budget_spent : (words : List (List ℕ)) (files : Files) (job : Job) (reply : Reply) (old new : Option (List ℕ)) → JobOf words job → job_due files job (Ok reply) → reply.status ≡ SpentExpansions → Appends old new reply.text → (synth : SynthJob) × JobOf words (Synth synth) × SpendsBudgetOf synth files old new
+budget_spent words files (Synth job) reply old new is here status appended =
+    let is_job = job_kept words (Synth job) is in
+    (job, is, spends_budget files job is_job reply (answered files job reply is_job here) old new status appended)
+budget_spent words files (Check job) reply old new is here status appended = absurd (subst IsYesOrNo status (checked_status files job reply here))
+budget_spent words files (Run job) reply old new is here status appended = absurd (subst IsYesOrNo status (run_status files job reply here))
+
+-- with status 5
+run_spent : (words : List (List ℕ)) (files : Files) (job : Job) (reply : Reply) (old new : Option (List ℕ)) → JobOf words job → job_due files job (Ok reply) → reply.status ≡ SpentRun → Appends old new reply.text → (synth : SynthJob) × JobOf words (Synth synth) × SpendsRunOf synth files old new
+run_spent words files (Synth job) reply old new is here status appended =
+    let is_job = job_kept words (Synth job) is in
+    (job, is, spends_run files job is_job reply (answered files job reply is_job here) old new status appended)
+run_spent words files (Check job) reply old new is here status appended = absurd (subst IsYesOrNo status (checked_status files job reply here))
+run_spent words files (Run job) reply old new is here status appended = absurd (subst IsYesOrNo status (run_status files job reply here))
 
 -- a reply that tells neither a fault nor the usage is what a job comes to
 pub record Concluded (words : List (List ℕ)) (files : Files) (reply : Reply) : Type 0 where
@@ -346,8 +428,14 @@ headline words files reply No old new due writes =
     (known.job, known.job_is, refuted files known.job reply old new (job_kept words known.job known.job_is) known.comes (sym wrote.0) wrote.1)
 headline words files reply Usage old new due writes = tt
 headline words files reply Input old new due writes = tt
-headline words files reply SpentExpansions old new due writes = tt
-headline words files reply SpentRun old new due writes = tt
+headline words files reply SpentExpansions old new due writes =
+    let wrote = writes.whole (λ e. cc) in
+    let known = concluded words files reply (λ is. let both = wrote.0 ∙ is in cc) (λ is. let both = wrote.0 ∙ is in cc) due in
+    budget_spent words files known.job reply old new known.job_is known.comes (sym wrote.0) wrote.1
+headline words files reply SpentRun old new due writes =
+    let wrote = writes.whole (λ e. cc) in
+    let known = concluded words files reply (λ is. let both = wrote.0 ∙ is in cc) (λ is. let both = wrote.0 ∙ is in cc) due in
+    run_spent words files known.job reply old new known.job_is known.comes (sym wrote.0) wrote.1
 headline words files reply ReadFault old new due writes = tt
 headline words files reply WriteFault old new due writes = tt
 headline words files reply OutOfMemory old new due writes = tt

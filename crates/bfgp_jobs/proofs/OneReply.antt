@@ -7,10 +7,10 @@ use Rattle.instance_report.specs.declared.answer.Report.{Report}
 use Rattle.instance_report.proofs.OneReport.{same_report}
 use Rattle.pointer_machine.specs.Machine.{MachineParts, meaning_of}
 use Rattle.pointer_machine.specs.Texts.{operation_texts}
-use Rattle.synthesis.specs.declared.bounds.TheConstants.{BUDGET, RUN_LIMIT}
+use Rattle.synthesis.specs.declared.bounds.Bounds.{Bounds}
 use Rattle.refutation_tree.specs.declared.evidence.Answer.{Answer as SearchAnswer}
 use Rattle.answer_writer.specs.Document.{document}
-use Rattle.synthesis.specs.Search.{plain}
+use Rattle.synthesis.specs.BestFirst.{best_first}
 use Rattle.synthesis.proofs.SameAnswers.{same_answer}
 use Rattle.command_words.specs.declared.job.Job.{Job}
 use Rattle.command_words.specs.declared.job.Job.TheVariants.{Synth, Check, Run}
@@ -23,14 +23,14 @@ use Rattle.bfgp_jobs.specs.declared.check.TheConstants.{MAX_DOCUMENT_BYTES}
 use Rattle.bfgp_jobs.specs.Due.{Due, answer, fault, usage, fault_reply, answer_due, VerdictDue, accepted, rejected, report_due, job_due, status_of, report_status}
 use Rattle.bfgp_jobs.proofs.Runs.{program_over}
 
-answer_decided : (machine : MachineParts) (lines : ℕ) → IsDecided (answer_due machine lines)
-answer_decided machine lines = record { one = both }
+answer_decided : (machine : MachineParts) (bounds : Bounds) → IsDecided (answer_due machine bounds)
+answer_decided machine bounds = record { one = both }
   where
     reply_with : SearchAnswer → Reply
     reply_with a = record { status = status_of a.outcome; text = document (operation_texts machine.task machine.pointers) a }
 
-    both : (r s : Result Reply (List ℕ)) → answer_due machine lines r → answer_due machine lines s → r ≡ s
-    both (Ok x) (Ok y) p q = ap Ok (p.2 ∙ ap reply_with (same_answer (plain (meaning_of machine) RUN_LIMIT) BUDGET lines p.0 q.0 p.1 q.1) ∙ sym q.2)
+    both : (r s : Result Reply (List ℕ)) → answer_due machine bounds r → answer_due machine bounds s → r ≡ s
+    both (Ok x) (Ok y) p q = ap Ok (p.2 ∙ ap reply_with (same_answer (best_first (meaning_of machine) bounds) bounds.budget bounds.lines p.0 q.0 p.1 q.1) ∙ sym q.2)
     both (Ok x) (Err y) p q = absurd q
     both (Err x) s p q = absurd p
 
@@ -57,7 +57,7 @@ report_decided machine limit program whole = record { one = both }
 job_decided : (files : Files) (job : Job) → IsJob job → IsDecided (job_due files job)
 job_decided files (Synth job) is =
     then_decided (machine_decided files job.inputs job.pointers) (λ machine made.
-    answer_decided machine job.lines)
+    answer_decided machine job.bounds)
 job_decided files (Check job) is =
     then_decided (machine_decided files job.inputs job.pointers) (λ machine made.
     then_decided (file_decided files MAX_DOCUMENT_BYTES job.answer) (λ bytes read.

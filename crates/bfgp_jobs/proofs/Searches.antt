@@ -1,5 +1,5 @@
 -- What `synth` comes to.
-use Rattle.std.proofs.Common.{◌≡◌, ℕ, ◌<◌, ◌≤◌, List, length, Ok, sym, ◌∙◌, ap, subst, arith}
+use Rattle.std.proofs.Common.{◌≡◌, ℕ, List, length, Ok, sym, ◌∙◌, ap, subst, arith}
 use Rattle.std.proofs.lemmas.List.{length-map}
 use Rattle.program_model.specs.declared.machine.TheConstants.{MAX_INSTANCES, MAX_POINTERS}
 use Rattle.program_text.specs.Names.{AreNames}
@@ -11,20 +11,18 @@ use Rattle.refutation_tree.specs.declared.evidence.Outcome.{Outcome}
 use Rattle.refutation_tree.specs.declared.evidence.Outcome.TheVariants as outcomes
 use Rattle.answer_writer.specs.Document.{document}
 use Rattle.refutation_tree.specs.Grammar.{IsFromOneTo, IsGrammatical}
-use Rattle.synthesis.specs.declared.bounds.TheConstants.{BUDGET, RUN_LIMIT}
-use Rattle.synthesis.specs.Search.{plain}
-use Rattle.synthesis.specs.Answers.{IsAnswer}
+use Rattle.synthesis.specs.declared.bounds.Bounds.{Bounds}
+use Rattle.synthesis.specs.BestFirst.{AreWithinLimits, best_first, IsBestFirstAnswer}
 use Rattle.synthesis.proofs.Grammatical.{searched_grammatical}
-use Rattle.command_words.specs.declared.job.TheConstants.{MAX_SYNTH_LINES}
 use Rattle.bfgp_jobs.specs.declared.status.Status.{Status}
 use Rattle.bfgp_jobs.specs.Reply.{Reply}
 use Rattle.bfgp_jobs.specs.Due.{answer_due, status_of}
 use Rattle.bfgp_jobs.specs.Answers.{IsAnswerStatus}
 
 -- the reply with the document of a search's answer
-pub answer_is_due : (machine : MachineParts) (lines : ℕ) (answer : Answer) (status : Status) (names : List (List ℕ)) (reply : Reply) → IsAnswer (plain (meaning_of machine) RUN_LIMIT) BUDGET lines answer → status ≡ status_of answer.outcome → names ≡ operation_texts machine.task machine.pointers
-    → reply ≡ record { status = status; text = document names answer } → answer_due machine lines (Ok reply)
-answer_is_due machine lines answer status names reply found status_is names_are is =
+pub answer_is_due : (machine : MachineParts) (bounds : Bounds) (answer : Answer) (status : Status) (names : List (List ℕ)) (reply : Reply) → IsBestFirstAnswer (meaning_of machine) bounds answer → status ≡ status_of answer.outcome → names ≡ operation_texts machine.task machine.pointers
+    → reply ≡ record { status = status; text = document names answer } → answer_due machine bounds (Ok reply)
+answer_is_due machine bounds answer status names reply found status_is names_are is =
     (answer, found, is ∙ λ i. record { status = status_is i; text = document (names_are i) answer })
 
 outcome_verdict : (outcome : Outcome) → IsAnswerStatus (status_of outcome)
@@ -37,11 +35,11 @@ pub answer_verdict : (outcome : Outcome) (status : Status) (text : List ℕ) (re
 answer_verdict outcome status text reply status_is is = subst IsAnswerStatus (sym (ap (λ (r : Reply). r.status) is ∙ status_is)) (outcome_verdict outcome)
 
 -- the answer is of the grammar, over the names of the operations
-pub answer_is_grammatical : (machine : MachineParts) (lines : ℕ) (answer : Answer) (names : List (List ℕ)) → AreNames (operation_texts machine.task machine.pointers) → IsFromOneTo MAX_POINTERS machine.pointers → IsFromOneTo MAX_INSTANCES (length machine.tables) → 0 < lines → lines ≤ MAX_SYNTH_LINES
-    → IsAnswer (plain (meaning_of machine) RUN_LIMIT) BUDGET lines answer → names ≡ operation_texts machine.task machine.pointers → IsGrammatical (length names) answer
-answer_is_grammatical machine lines answer names named pointers instances some few found names_are =
+pub answer_is_grammatical : (machine : MachineParts) (bounds : Bounds) (answer : Answer) (names : List (List ℕ)) → AreNames (operation_texts machine.task machine.pointers) → IsFromOneTo MAX_POINTERS machine.pointers → IsFromOneTo MAX_INSTANCES (length machine.tables) → AreWithinLimits bounds
+    → IsBestFirstAnswer (meaning_of machine) bounds answer → names ≡ operation_texts machine.task machine.pointers → IsGrammatical (length names) answer
+answer_is_grammatical machine bounds answer names named pointers instances within found names_are =
     let ops : length names ≡ length (operations_of machine.task machine.pointers) = ap length names_are ∙ length-map (operations_of machine.task machine.pointers) (form_text machine.task) in
     let there = named.some in
     subst (λ (n : ℕ). IsGrammatical n answer) (sym ops)
-    (searched_grammatical (plain (meaning_of machine) RUN_LIMIT) BUDGET (omega arith) (omega arith) lines answer
-    (omega (arith, there, ap length names_are, ops)) pointers instances (omega arith, omega arith) found)
+    (searched_grammatical (best_first (meaning_of machine) bounds) bounds.budget (omega (arith, within.few_splits)) (omega (arith, within.few_steps)) bounds.lines answer
+    (omega (arith, there, ap length names_are, ops)) pointers instances (within.some_lines, within.few_lines) found)

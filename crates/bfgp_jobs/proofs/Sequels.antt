@@ -13,7 +13,7 @@ use Rattle.bfgp_jobs.specs.Due.{answer_due, report_due, VerdictDue}
 
 -- after the machine of a search
 abbrev pub after_search_machine : SynthJob → MachineParts → Result Reply (List ℕ) → Type 0
-after_search_machine job machine = answer_due machine job.lines
+after_search_machine job machine = answer_due machine job.bounds
 
 -- after the bytes of the answer file
 abbrev pub after_document : CheckJob → MachineParts → List ℕ → Result Reply (List ℕ) → Type 0

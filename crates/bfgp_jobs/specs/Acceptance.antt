@@ -15,7 +15,7 @@ use Rattle.bfgp_jobs.specs.Answers.{IsAnswerStatus}
 
 -- the check of the file of a name, for the same pointers, lines and inputs as a search
 abbrev pub check_of : SynthJob → List ℕ → CheckJob
-check_of job name = record { pointers = job.pointers; lines = job.lines; answer = name; inputs = job.inputs }
+check_of job name = record { pointers = job.pointers; lines = job.bounds.lines; answer = name; inputs = job.inputs }
 
 -- the files of a search's inputs are as they were, and the file of a name holds these bytes
 pub record HoldsWritten (job : SynthJob) (files : Files) (bytes name : List ℕ) (later : Files) : Type 0 where
@@ -29,7 +29,7 @@ pub record WritesAccepted (words : List (List ℕ)) (job : SynthJob) (files : Fi
   pub appended : Appends old new bytes
   pub due : Due words files (record { status = status; text = bytes })
   pub posed : Poses job.inputs files
-  pub is_accepted : IsAcceptedDocument (posed_parts posed.task posed.instances job.pointers) job.lines bytes
+  pub is_accepted : IsAcceptedDocument (posed_parts posed.task posed.instances job.pointers) job.bounds.lines bytes
   pub checked : (name : List ℕ) (check_words : List (List ℕ)) (later : Files) → JobOf check_words (Check (check_of job name)) → HoldsWritten job files bytes name later → length bytes ≤ MAX_DOCUMENT_BYTES → Due check_words later accepted_reply
 
 -- where the words are those of a search, and the status is that of an answer, this is so of what was written

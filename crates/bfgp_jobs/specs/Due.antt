@@ -15,9 +15,8 @@ use Rattle.refutation_tree.specs.Covers.{nobody}
 use Rattle.refutation_tree.specs.Accepted.{IsAccepted}
 use Rattle.answer_writer.specs.Document.{document}
 use Rattle.answer_reader.specs.Reading.{IsDocument}
-use Rattle.synthesis.specs.declared.bounds.TheConstants.{BUDGET, RUN_LIMIT}
-use Rattle.synthesis.specs.Search.{plain}
-use Rattle.synthesis.specs.Answers.{IsAnswer}
+use Rattle.synthesis.specs.declared.bounds.Bounds.{Bounds}
+use Rattle.synthesis.specs.BestFirst.{IsBestFirstAnswer}
 use Rattle.command_words.specs.declared.job.Job.{Job}
 use Rattle.command_words.specs.declared.job.Job.TheVariants.{Synth, Check, Run}
 use Rattle.command_words.specs.declared.job.SynthJob.{SynthJob}
@@ -39,15 +38,15 @@ status_of (outcomes.SpentExpansions size) = SpentExpansions
 status_of (outcomes.SpentRun size t) = SpentRun
 
 -- the reply is the document of the search's answer
-abbrev pub answer_due : MachineParts → ℕ → Result Reply (List ℕ) → Type 0
-answer_due machine lines (Ok reply) = (answer : Answer) × IsAnswer (plain (meaning_of machine) RUN_LIMIT) BUDGET lines answer × (reply ≡ record { status = status_of answer.outcome; text = document (operation_texts machine.task machine.pointers) answer })
-answer_due machine lines (Err line) = ⊥
+abbrev pub answer_due : MachineParts → Bounds → Result Reply (List ℕ) → Type 0
+answer_due machine bounds (Ok reply) = (answer : Answer) × IsBestFirstAnswer (meaning_of machine) bounds answer × (reply ≡ record { status = status_of answer.outcome; text = document (operation_texts machine.task machine.pointers) answer })
+answer_due machine bounds (Err line) = ⊥
 
--- `synth`: the machine, and then the search
+-- `synth`: the machine, and then the search within the bounds of the job
 abbrev pub synth_due : Files → SynthJob → Result Reply (List ℕ) → Type 0
 synth_due files job = do
   machine ← machine_due files job.inputs job.pointers
-  answer_due machine job.lines
+  answer_due machine job.bounds
 
 -- the bytes are the document of an answer that is accepted for a machine and a number of lines
 pub record IsAcceptedDocument (machine : MachineParts) (lines : ℕ) (bytes : List ℕ) : Type 0 where

@@ -13,13 +13,12 @@ use Rattle.pointer_machine.specs.Machine.{MachineParts}
 use Rattle.pointer_machine.specs.Operations.{operations_of}
 use Rattle.pointer_machine.specs.Meaning.{meaning}
 use Rattle.pointer_machine.specs.Texts.{operation_texts}
-use Rattle.synthesis.specs.declared.bounds.TheConstants.{BUDGET, RUN_LIMIT}
 use Rattle.refutation_tree.specs.declared.evidence.Answer.{Answer}
 use Rattle.refutation_tree.specs.declared.evidence.Outcome.{Outcome}
 use Rattle.refutation_tree.specs.declared.evidence.Outcome.TheVariants as outcomes
 use Rattle.answer_reader.specs.Reading.{IsDocument}
-use Rattle.synthesis.specs.Search.{plain}
-use Rattle.synthesis.specs.Answers.{IsAnswer}
+use Rattle.synthesis.specs.BestFirst.{IsBestFirstAnswer}
+use Rattle.synthesis.specs.Spent.{SpendsBudget, SpendsRun}
 use Rattle.program_text.specs.Reading.{Reads}
 use Rattle.input_reading.specs.Posed.{Poses}
 use Rattle.command_words.specs.declared.job.Job.{Job}
@@ -28,7 +27,7 @@ use Rattle.command_words.specs.declared.job.SynthJob.{SynthJob}
 use Rattle.command_words.specs.declared.job.CheckJob.{CheckJob}
 use Rattle.command_words.specs.declared.job.RunJob.{RunJob}
 use Rattle.bfgp_jobs.specs.declared.status.Status.{Status}
-use Rattle.bfgp_jobs.specs.declared.status.Status.TheVariants.{Done, No}
+use Rattle.bfgp_jobs.specs.declared.status.Status.TheVariants.{Done, No, SpentExpansions, SpentRun}
 use Rattle.command_words.specs.Words.{JobOf}
 use Rattle.bfgp_jobs.specs.Due.{IsAcceptedDocument}
 
@@ -104,19 +103,46 @@ pub record SaysAnswer (texts : List (List ℕ)) (old new : Option (List ℕ)) (a
 pub record FindsLeast (job : SynthJob) (files : Files) (old new : Option (List ℕ)) : Type 0 where
   pub posed : Poses job.inputs files
   pub answer : Answer
-  pub gives : GivesLeast posed.task posed.instances job.pointers job.lines answer
-  pub searched : IsAnswer (plain (posed_machine posed.task posed.instances job.pointers) RUN_LIMIT) BUDGET job.lines answer
+  pub gives : GivesLeast posed.task posed.instances job.pointers job.bounds.lines answer
+  pub searched : IsBestFirstAnswer (posed_machine posed.task posed.instances job.pointers) job.bounds answer
   pub written : SaysAnswer (operation_texts posed.task job.pointers) old new answer
 
 -- what was written says one answer, which is the search's: that there is none; and no program of at most as many lines as were
 -- asked for solves every instance
 pub record RefutesAll (job : SynthJob) (files : Files) (old new : Option (List ℕ)) : Type 0 where
   pub posed : Poses job.inputs files
-  pub none : NoneSolvesEach posed.task posed.instances job.pointers job.lines
+  pub none : NoneSolvesEach posed.task posed.instances job.pointers job.bounds.lines
   pub answer : Answer
   pub nothing : answer.outcome ≡ outcomes.Nothing
   pub no_program : answer.program ≡ None
-  pub searched : IsAnswer (plain (posed_machine posed.task posed.instances job.pointers) RUN_LIMIT) BUDGET job.lines answer
+  pub searched : IsBestFirstAnswer (posed_machine posed.task posed.instances job.pointers) job.bounds answer
+  pub written : SaysAnswer (operation_texts posed.task job.pointers) old new answer
+
+-- what was written says one answer, which is the search's: that it spent its budget at a size, where it made as many splits as the
+-- budget allows while a partial program of that size waits; and no program of fewer lines solves every instance
+pub record SpendsBudgetOf (job : SynthJob) (files : Files) (old new : Option (List ℕ)) : Type 0 where
+  pub posed : Poses job.inputs files
+  pub answer : Answer
+  pub size : ℕ
+  pub says : answer.outcome ≡ outcomes.SpentExpansions size
+  pub spends : SpendsBudget job.bounds.budget size answer.trees
+  pub none : NoneShorter posed.task posed.instances job.pointers size
+  pub no_program : answer.program ≡ None
+  pub searched : IsBestFirstAnswer (posed_machine posed.task posed.instances job.pointers) job.bounds answer
+  pub written : SaysAnswer (operation_texts posed.task job.pointers) old new answer
+
+-- what was written says one answer, which is the search's: that a partial program of a size made as many steps on an instance as a
+-- run may; and no program of fewer lines solves every instance
+pub record SpendsRunOf (job : SynthJob) (files : Files) (old new : Option (List ℕ)) : Type 0 where
+  pub posed : Poses job.inputs files
+  pub answer : Answer
+  pub size : ℕ
+  pub t : ℕ
+  pub says : answer.outcome ≡ outcomes.SpentRun size t
+  pub spends : SpendsRun (posed_machine posed.task posed.instances job.pointers) job.bounds.run size t answer.trees
+  pub none : NoneShorter posed.task posed.instances job.pointers size
+  pub no_program : answer.program ≡ None
+  pub searched : IsBestFirstAnswer (posed_machine posed.task posed.instances job.pointers) job.bounds answer
   pub written : SaysAnswer (operation_texts posed.task job.pointers) old new answer
 
 -- the files hold a task and instances of it, and the answer file holds some bytes
@@ -180,8 +206,11 @@ Refutes (Synth job) files old new = RefutesAll job files old new
 Refutes (Check job) files old new = DocumentFails job files
 Refutes (Run job) files old new = ProgramFails job files
 
--- with status 0 and with status 1 the words are a job, and this is so of it
+-- with status 0 and with status 1 the words are a job, and this is so of it; with status 4 and with status 5 they are a search, which
+-- spent its budget of splits, or the limit of steps of a run
 abbrev pub Headline : List (List ℕ) → Files → Status → Option (List ℕ) → Option (List ℕ) → Type 0
 Headline words files Done old new = (job : Job) × JobOf words job × Succeeds job files old new
 Headline words files No old new = (job : Job) × JobOf words job × Refutes job files old new
+Headline words files SpentExpansions old new = (job : SynthJob) × JobOf words (Synth job) × SpendsBudgetOf job files old new
+Headline words files SpentRun old new = (job : SynthJob) × JobOf words (Synth job) × SpendsRunOf job files old new
 Headline words files _ old new = Unit {0}

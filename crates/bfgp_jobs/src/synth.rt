@@ -1,11 +1,11 @@
-ghost use Rattle.std.specs.Prelude.{◌≡◌, ◌<◌, ◌≤◌, length, Ok, IfOk, IfErr};
+ghost use Rattle.std.specs.Prelude.{◌≡◌, length, Ok, IfOk, IfErr};
 ghost use Rattle.bfgp_outside.specs.Causes.{RoseIf};
 ghost use Rattle.bfgp_outside.specs.Shelf.{Knowing, GoesOn};
 ghost use Rattle.program_model.specs.declared.machine.TheConstants.{MAX_INSTANCES, MAX_POINTERS};
 ghost use Rattle.program_text.specs.Names.{AreNames};
 ghost use Rattle.pointer_machine.specs.Texts.{operation_texts};
 ghost use Rattle.refutation_tree.specs.Grammar.{IsFromOneTo};
-ghost use Rattle.command_words.specs.declared.job.TheConstants.{MAX_SYNTH_LINES};
+ghost use Rattle.synthesis.specs.BestFirst.{AreWithinLimits};
 ghost use Rattle.command_words.specs.Words.{IsSynthJob, names_of};
 ghost use Rattle.input_reading.specs.Asked.{AsksInTurn};
 ghost use Rattle.input_reading.specs.Steps.{Gives};
@@ -23,9 +23,9 @@ use pointer_machine::{Meter, PointerMachine};
 use program_text::Names;
 use refutation_tree::Outcome;
 use std::alloc::Global;
-use synthesis::search;
+use synthesis::{Bounds, search};
 
-/// Searches for a smallest program that solves the instances of a job.
+/// Searches within the bounds of a job for a smallest program that solves its instances.
 pub(crate) fn synth<S: Shelf>(alloc: Global, shelf: &mut S, job: &SynthJob) -> Result<Reply, Halt>
     requires { IsSynthJob job.now }
     ensures due { Knowing (S.files shelf.old) (λ files. Gives (synth_due files job.now) result) }
@@ -36,20 +36,19 @@ pub(crate) fn synth<S: Shelf>(alloc: Global, shelf: &mut S, job: &SynthJob) -> R
     ensures asks { AsksInTurn (S.asked shelf.old) (S.asked shelf.new) (names_of job.now.inputs) }
 {
     let machine = machine_for(alloc, shelf, &job.inputs, job.pointers)?;
-    Ok(answer(alloc, &machine, job.lines)?)
+    Ok(answer(alloc, &machine, &job.bounds)?)
 }
 
 // The reply with the document of the search's answer.
-fn answer(alloc: Global, machine: &PointerMachine, lines: u8) -> Result<Reply, OutOfMemory>
+fn answer(alloc: Global, machine: &PointerMachine, bounds: &Bounds) -> Result<Reply, OutOfMemory>
     requires names { AreNames (operation_texts machine.now.task machine.now.pointers) }
     requires pointers { IsFromOneTo MAX_POINTERS machine.now.pointers }
     requires instances { IsFromOneTo MAX_INSTANCES (length machine.now.tables) }
-    requires some { 0 < lines }
-    requires few { lines ≤ MAX_SYNTH_LINES }
-    ensures due { IfOk result (λ reply. answer_due machine.now lines (Ok reply)) }
+    requires bounds { AreWithinLimits bounds.now }
+    ensures due { IfOk result (λ reply. answer_due machine.now bounds.now (Ok reply)) }
     ensures verdict { IfOk result (λ reply. IsAnswerStatus reply.status) }
 {
-    let answer = search(alloc, machine, lines, &mut Meter::zero())?;
+    let answer = search(alloc, machine, bounds, &mut Meter::zero())?;
     let texts = machine.op_texts(alloc)?;
     let names = Names::build(alloc, texts)?;
     Ok(Reply::of_answer(status_of(answer.outcome), answer, names))

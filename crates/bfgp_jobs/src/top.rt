@@ -23,9 +23,11 @@ pub fn bfgp<S: Shelf, K: Sink>(
 ) -> Status
     // `synth`: with status 0 the bytes that were written say one answer, whose program solves every instance that the words
     // pose, and none with fewer lines does; with status 1 they say that there is none, and no program of at most as many lines
-    // as were asked for does. `check`: with status 0 the given document is accepted, and what it says of its program, or that
-    // there is none, is so; with status 1 it is not accepted. `run`: with status 0 the given program solves every instance
-    // within the limit of steps, and with status 1 it does not solve some instance within it.
+    // as were asked for does; with status 4 that the budget of splits was spent, and with status 5 that a run made as many steps
+    // as it may, and no program with fewer lines than the size at which that was solves; no other command ends with 4 or 5.
+    // `check`: with status 0 the given document is accepted, and what it says of its program, or that there is none, is so; with
+    // status 1 it is not accepted. `run`: with status 0 the given program solves every instance within the limit of steps, and
+    // with status 1 it does not solve some instance within it.
     ensures headline { Knowing (S.files shelf.old) (λ files.
         Headline (map string_bytes words.now) files result (K.written out.old) (K.written out.new)) }
 

@@ -109,3 +109,72 @@ pub fn words_of(alloc: Global, line: &str) -> Result<Vec<String>, AllocError> {
     }
     Ok(words)
 }
+
+/// What a search ends with.
+#[derive(Drop)]
+pub struct Searched {
+    /// The number of the exit status.
+    pub status: String,
+    /// What is written.
+    pub document: String,
+}
+
+impl Searched {
+    /// The verdict in the document; empty where it has none.
+    pub fn verdict(&self) -> &str {
+        self.document
+            .lines()
+            .find_map(|line| line.strip_prefix("verdict "))
+            .unwrap_or("")
+    }
+
+    /// How many splits the document has.
+    pub fn splits(&self) -> usize {
+        self.document
+            .lines()
+            .filter(|line| line.starts_with("s "))
+            .count()
+    }
+}
+
+/// Runs the words of a search over a shelf.
+pub fn search<S: Shelf>(alloc: Global, shelf: &mut S, words: &str) -> Result<Searched, Fail> {
+    let mut sink = MemorySink::new(alloc, 4096, 16)?;
+    let status = status_of(alloc, shelf, &mut sink, words)?;
+    let document = String::from_str(alloc, str::from_utf8(sink.written()).unwrap_or(""))?;
+    Ok(Searched { status, document })
+}
+
+/// Checks that the document of a search is accepted for the same pointers, lines and inputs.
+pub fn check_accepted<R: Abort>(
+    rt: &R,
+    alloc: Global,
+    shelf: &mut MemoryShelf,
+    search: &str,
+    document: &str,
+) -> Result<(), Fail> {
+    shelf.add(b"answer", document.as_bytes())?;
+    let words = words_of_check(alloc, search)?;
+    check(rt, alloc, shelf, "0", words.as_str(), "accepted")
+}
+
+// The words of a check of the file `answer`, with the pointers, the lines and the inputs of a search.
+fn words_of_check(alloc: Global, search: &str) -> Result<String, AllocError> {
+    let mut words = String::from_str(alloc, "check")?;
+    let mut inputs = String::new(alloc);
+    let mut option = "";
+    for word in search.split(' ').skip(1) {
+        if word.starts_with("--") {
+            option = word;
+        } else if option.is_empty() {
+            write!(inputs, " {word}")?;
+        } else {
+            if option == "--pointers" || option == "--lines" {
+                write!(words, " {option} {word}")?;
+            }
+            option = "";
+        }
+    }
+    write!(words, " --answer answer{inputs}")?;
+    Ok(words)
+}

@@ -5,6 +5,8 @@
 #[cfg(test)]
 mod asking_shelf;
 #[cfg(test)]
+mod bounds;
+#[cfg(test)]
 mod calls;
 #[cfg(test)]
 mod changes;
@@ -24,6 +26,8 @@ mod limits;
 mod marked_texts;
 #[cfg(test)]
 mod operations;
+#[cfg(test)]
+mod orders;
 #[cfg(test)]
 mod other_forms;
 #[cfg(test)]

@@ -44,7 +44,9 @@ run --pointers 1 --program p --run 6 lights two: act light p0 / inc p0 / goto 0 
 run --pointers 1 --program p --run 5 lights two: act light p0 / inc p0 / goto 0 if carry / end: limit 5
 run --pointers 1 --program p --run 4 lights two: act light p0 / inc p0 / goto 0 if carry / end: limit 4
 run --pointers 1 --program p --run 4 lights three: act light p0 / inc p0 / goto 0 if nonzero / end: limit 4
+run --pointers 1 --program p --run 8 lights three: act light p0 / inc p0 / goto 0 if nonzero / end: limit 8
 run --pointers 1 --program p --run 9 lights three: act light p0 / inc p0 / goto 0 if nonzero / end: solved 9
+run --pointers 1 --program p --run 10 lights three: act light p0 / inc p0 / goto 0 if nonzero / end: solved 9
 run --pointers 1 --program p --run 10000000 lights unlit: act light p0 / end: solved 1
 run --pointers 1 --program p --run 4 lights unlit: act light p0 / end: solved 1
 run --pointers 1 --program p --run 4 lights unlit: inc p0 / inc p0 / inc p0 / act light p0 / end: solved 4

@@ -1,5 +1,5 @@
-use crate::calls::{check, check_call, shelf_of};
-use crate::given::not_in_three_lines;
+use crate::calls::{check_accepted, check_call, shelf_of};
+use crate::given::{at_the_limit_in_four_lines, lit_in_four_lines, not_in_three_lines};
 use bfgp_outside::MemoryShelf;
 use std::alloc::Global;
 use std::process::Abort;
@@ -36,10 +36,23 @@ end
 ends 0 0
 end of answer
 
-0 synth --pointers 1 --lines 3 lights unlit
+0 synth --pointers 1 --lines 5 lights lit
 bfgp answer 1
 pointers 1
-lines 3
+lines 5
+instances 1
+verdict program 1
+tree 1
+g
+program
+end
+ends 0 0
+end of answer
+
+0 synth --pointers 1 --lines 5 lights unlit
+bfgp answer 1
+pointers 1
+lines 5
 instances 1
 verdict program 2
 tree 1
@@ -156,10 +169,10 @@ end
 ends 0 1
 end of answer
 
-0 synth --pointers 1 --lines 3 lights unlit unlit
+0 synth --pointers 1 --lines 5 lights unlit unlit
 bfgp answer 1
 pointers 1
-lines 3
+lines 5
 instances 2
 verdict program 2
 tree 1
@@ -247,6 +260,51 @@ fn refutations(rt: HostRuntime) -> Result<(), Fail> {
     check_searches(&rt, rt.alloc(), SEARCH_FILES, REFUTATIONS)
 }
 
+// The budget is spent before the first split of three lines, also where programs may have as many lines as there may be.
+const SPENT: &str = "\
+4 synth --pointers 1 --lines 5 --budget 1 lights two three
+bfgp answer 1
+pointers 1
+lines 5
+instances 2
+verdict spent expansions 3
+tree 1
+f 0 0
+tree 2
+s 0 0
+f 0 1
+f 0 1
+f 0 1
+f 0 1
+f 0 1
+tree 3
+o
+end of answer
+
+4 synth --pointers 1 --lines 16 --budget 1 lights two
+bfgp answer 1
+pointers 1
+lines 16
+instances 1
+verdict spent expansions 3
+tree 1
+f 0 0
+tree 2
+s 0 0
+f 0 1
+f 0 1
+f 0 1
+f 0 1
+f 0 1
+tree 3
+o
+end of answer";
+
+#[test]
+fn spent_budgets(rt: HostRuntime) -> Result<(), Fail> {
+    check_searches(&rt, rt.alloc(), SEARCH_FILES, SPENT)
+}
+
 // Letters of either case and comments; sections and parts in any order, conjunctions within others, and parts that are absent.
 const FREE_FILES: &str = "\
 capital: (DEFINE(DOMAIN Lights);( / (:Predicates(LIT ?X)))
@@ -325,46 +383,45 @@ fn check_searches<R: Abort>(
 ) -> Result<(), Fail> {
     let mut shelf = shelf_of(alloc, files)?;
     for search in searches.split("\n\n") {
-        check_call(rt, alloc, &mut shelf, search)?;
-        check_accepted(rt, alloc, &mut shelf, search)?;
+        check_search(rt, alloc, &mut shelf, search)?;
     }
     Ok(())
 }
 
-// Checks that the document that a search writes is accepted for the same pointers, lines and inputs.
-fn check_accepted<R: Abort>(
+fn check_search<R: Abort>(
     rt: &R,
     alloc: Global,
     shelf: &mut MemoryShelf,
     search: &str,
 ) -> Result<(), Fail> {
+    check_call(rt, alloc, shelf, search)?;
     let (head, document) = search.split_once('\n').unwrap_or((search, ""));
-    let (front, rest) = head.split_once(" --lines ").unwrap_or((head, ""));
-    let (_, pointers) = front.split_once(" synth ").unwrap_or((front, ""));
-    let (lines, inputs) = rest.split_once(' ').unwrap_or((rest, ""));
+    let (_, words) = head.split_once(' ').unwrap_or((head, ""));
     let document = format!(in alloc; "{document}\n")?;
-    shelf.add(b"answer", document.as_bytes())?;
-    let words = format!(in alloc; "check {pointers} --lines {lines} --answer answer {inputs}")?;
-    check(rt, alloc, shelf, "0", words.as_str(), "accepted")
+    check_accepted(rt, alloc, shelf, words, document.as_str())
 }
 
-// Two lights are not lit in three lines, alone and with three on a second instance.
+// Two lights are not lit in three lines, alone and with three on a second instance; they are in four, but not where a run makes
+// too few steps.
 #[test]
-fn two_lights_and_three_in_three_lines(rt: HostRuntime) -> Result<(), Fail> {
-    for (instances, inputs) in [(1, "two"), (2, "two three")] {
-        check_two_lights(&rt, rt.alloc(), instances, inputs)?;
+fn two_lights_and_three(rt: HostRuntime) -> Result<(), Fail> {
+    let alloc = rt.alloc();
+    let alone = not_in_three_lines(alloc, 1)?;
+    let both = not_in_three_lines(alloc, 2)?;
+    let lit = lit_in_four_lines(alloc)?;
+    let limited = at_the_limit_in_four_lines(alloc)?;
+    for (call, document) in [
+        ("1 synth --pointers 1 --lines 3 lights two", &alone),
+        ("1 synth --pointers 1 --lines 3 lights two three", &both),
+        ("0 synth --pointers 1 --lines 5 lights two three", &lit),
+        (
+            "5 synth --pointers 1 --lines 5 --run 4 lights two three",
+            &limited,
+        ),
+    ] {
+        let mut shelf = shelf_of(alloc, "")?;
+        let search = format!(in alloc; "{call}\n{}", document.trim_end())?;
+        check_search(&rt, alloc, &mut shelf, search.as_str())?;
     }
     Ok(())
-}
-
-fn check_two_lights<R: Abort>(
-    rt: &R,
-    alloc: Global,
-    instances: u8,
-    inputs: &str,
-) -> Result<(), Fail> {
-    let mut shelf = shelf_of(alloc, "")?;
-    let document = not_in_three_lines(alloc, instances)?;
-    let search = format!(in alloc; "1 synth --pointers 1 --lines 3 lights {inputs}\n{document}")?;
-    check_call(rt, alloc, &mut shelf, search.as_str())
 }

@@ -18,7 +18,7 @@ synth --pointers 1 --lines 1 d
 synth --lines 1 --pointers 1 d i
 synth --pointers 5 --lines 1 d i
 synth --pointers 0 --lines 1 d i
-synth --pointers 1 --lines 4 d i
+synth --pointers 1 --lines 17 d i
 synth --pointers 1 --lines 0 d i
 synth --pointers 1 --lines 01 d i
 synth --pointers 1 --lines 1  i
@@ -32,6 +32,58 @@ check --pointers 1 --lines 1 d i
 #[test]
 fn words_that_are_no_job(rt: HostRuntime) -> Result<(), Fail> {
     check_usage(&rt, rt.alloc(), NO_JOB)
+}
+
+// Options out of their ranges, orders that are none, options out of their places or repeated, and options without a value or
+// without names behind them.
+const NO_SEARCH: &str = "\
+synth --pointers 1 --lines 1 --budget 0 d i
+synth --pointers 1 --lines 1 --budget 100001 d i
+synth --pointers 1 --lines 1 --budget 4294967297 d i
+synth --pointers 1 --lines 1 --budget 01 d i
+synth --pointers 1 --lines 1 --budget +1 d i
+synth --pointers 1 --lines 1 --budget 1x d i
+synth --pointers 1 --lines 1 --budget  d i
+synth --pointers 1 --lines 1 --run 3 d i
+synth --pointers 1 --lines 1 --run 0 d i
+synth --pointers 1 --lines 1 --run 10000001 d i
+synth --pointers 1 --lines 1 --run 04 d i
+synth --pointers 1 --lines 1 --run 99999999999999999999 d i
+synth --pointers 1 --lines 1 --run  d i
+synth --pointers 1 --lines 1 --order e5,e9 d i
+synth --pointers 1 --lines 1 --order e1,e1 d i
+synth --pointers 1 --lines 1 --order e1,,e2 d i
+synth --pointers 1 --lines 1 --order ,e1 d i
+synth --pointers 1 --lines 1 --order e1, d i
+synth --pointers 1 --lines 1 --order E1 d i
+synth --pointers 1 --lines 1 --order e1,e2,e3,e4,e5,e6,e1 d i
+synth --pointers 1 --lines 1 --order  d i
+synth --budget 1 --pointers 1 --lines 1 d i
+synth --pointers 1 --budget 1 --lines 1 d i
+synth --pointers 1 --lines 1 --run 4 --budget 1 d i
+synth --pointers 1 --lines 1 --order e5 --run 4 d i
+synth --pointers 1 --lines 1 --order e5 --budget 1 d i
+synth --pointers 1 --lines 1 d i --budget 1
+synth --pointers 1 --lines 1 d --order e5 i
+synth --pointers 1 --lines 1 --budget 1 --budget 1 d i
+synth --pointers 1 --lines 1 --run 4 --run 4 d i
+synth --pointers 1 --lines 1 --order e5 --order e5 d i
+synth --pointers 1 --lines 1 --budget 1 --run 4 --budget 1 d i
+synth --pointers 1 --lines 1 --answer a d i
+synth --pointers 1 --lines 1 --budget
+synth --pointers 1 --lines 1 --budget 1
+synth --pointers 1 --lines 1 --budget 1 d
+synth --pointers 1 --lines 1 --budget d i
+synth --pointers 1 --lines 1 --run 4 d
+synth --pointers 1 --lines 1 --order e5 d
+synth --pointers 1 --lines 1 --order d i
+synth --pointers 1 --lines 1 --order e5 d i i i i i i i i i i i i i i i i i i i i i i i i i i i i i i i i i
+synth --pointers 1 --lines 1 --order e5 -d i
+";
+
+#[test]
+fn words_that_are_no_search(rt: HostRuntime) -> Result<(), Fail> {
+    check_usage(&rt, rt.alloc(), NO_SEARCH)
 }
 
 const NO_RUN: &str = "\
@@ -54,6 +106,8 @@ run --pointers 1 --program p --run 04 d i
 run --pointers 1 --program p --run +4 d i
 run --pointers 1 --program p --run 4x d i
 run --pointers 1 --program p --run 99999999999999999999 d i
+run --pointers 1 --program p --budget 1 d i
+run --pointers 1 --program p --order e5 d i
 run --pointers 1 --program p d i -i
 run --pointers 1 --program p d i i i i i i i i i i i i i i i i i i i i i i i i i i i i i i i i i
 ";
@@ -83,6 +137,8 @@ check --pointers 1 --lines 1 --answer  d i
 check --pointers 1 --lines 1 --answer a d -i
 check --pointers 1 --lines 1 --answer a  i
 check --pointers 1 --lines 1 --answer a --run 4 d i
+check --pointers 1 --lines 1 --answer a --budget 1 d i
+check --pointers 1 --lines 1 --answer a --order e5 d i
 check --pointers 1 --lines 1 --answer a --answer a d i
 check --pointers 1 --lines 1 --answer a d i i i i i i i i i i i i i i i i i i i i i i i i i i i i i i i i i
 ";

@@ -1,15 +1,18 @@
 -- Words are those of one job at most.
-use Rattle.std.proofs.Common.{◌≡◌, ℕ, ◌^◌, ◌<◌, List, [], ◌∷◌, get_or, codes, decimal, sym, ◌∙◌, ap, subst, arith}
-use Rattle.std.specs.Prelude.{IsTrue}
-use Rattle.std.proofs.lemmas.Bool.{false≢true}
+use Rattle.std.proofs.Common.{◌≡◌, ℕ, List, [], ◌∷◌, get_or, codes, decimal, refl, sym, ◌∙◌, ap, subst, arith}
 use Rattle.std.proofs.lemmas.Fmt.{decimal_injective}
+use Rattle.evaluations.specs.Orders.{order_text}
+use Rattle.command_words.specs.declared.job.TheConstants.{USUAL_BUDGET, USUAL_RUN}
 use Rattle.command_words.specs.declared.job.Inputs.{Inputs}
 use Rattle.command_words.specs.declared.job.Job.{Job}
 use Rattle.command_words.specs.declared.job.Job.TheVariants.{Synth, Check, Run}
 use Rattle.command_words.specs.declared.job.CheckJob.{CheckJob}
 use Rattle.command_words.specs.declared.job.RunJob.{RunJob}
 use Rattle.command_words.specs.declared.job.SynthJob.{SynthJob}
-use Rattle.command_words.specs.Words.{is_file_name, names_of, IsJob, SynthJobOf, CheckJobOf, TellsLimit, told, untold, RunJobOf, JobOf}
+use Rattle.command_words.specs.Words.{names_of, usual_order, IsJob, Tells, SynthJobOf, CheckJobOf, RunJobOf, JobOf}
+use Rattle.command_words.proofs.Options.{no_names, tells_exactly, told_same}
+use Rattle.command_words.proofs.Orders.{order_text_injective}
+use Rattle.command_words.proofs.SynthWords.{no_budget_again, no_run_again, no_order_again, budget_same, run_same, order_same}
 
 -- the job of words keeps its limits
 pub job_kept : (words : List (List ℕ)) (job : Job) → JobOf words job → IsJob job
@@ -29,12 +32,22 @@ synth_job_same : (words : List (List ℕ)) (one other : SynthJob) → SynthJobOf
 synth_job_same words one other p q =
     let both = sym p.spelled ∙ q.spelled in
     let pointers : decimal one.pointers ≡ decimal other.pointers = cc in
-    let lines : decimal one.lines ≡ decimal other.lines = cc in
-    let names : names_of one.inputs ≡ names_of other.inputs = cc in
+    let lines : decimal one.bounds.lines ≡ decimal other.bounds.lines = cc in
+    let after_lines : q.after_lines ≡ p.after_lines = cc in
+    let budget = budget_same p.after_lines p.after_budget one.bounds.budget (tells_exactly (codes "--budget") decimal USUAL_BUDGET one.bounds.budget p.after_lines p.after_budget (no_budget_again words one p) p.budget) words other q after_lines in
+    let run = run_same p.after_budget p.after_run one.bounds.run (tells_exactly (codes "--run") decimal USUAL_RUN one.bounds.run p.after_budget p.after_run (no_run_again words one p) p.run) words other q (sym budget.1) in
+    let order = order_same p.after_run (names_of one.inputs) one.bounds.order (tells_exactly (codes "--order") order_text usual_order one.bounds.order p.after_run (names_of one.inputs) (no_order_again words one p) p.order) words other q (sym run.1) in
+    let limits = p.is_job.bounds in
+    let limits_too = q.is_job.bounds in
     λ i. record {
       pointers = decimal_injective one.pointers other.pointers (omega (arith, p.is_job.few_pointers)) (omega (arith, q.is_job.few_pointers)) pointers i;
-      lines = decimal_injective one.lines other.lines (omega (arith, p.is_job.few_lines)) (omega (arith, q.is_job.few_lines)) lines i;
-      inputs = inputs_same one.inputs other.inputs names i;
+      bounds = record {
+        lines = decimal_injective one.bounds.lines other.bounds.lines (omega (arith, limits.few_lines)) (omega (arith, limits_too.few_lines)) lines i;
+        budget = decimal_injective one.bounds.budget other.bounds.budget (omega (arith, limits.few_splits)) (omega (arith, limits_too.few_splits)) budget.0 i;
+        run = decimal_injective one.bounds.run other.bounds.run (omega (arith, limits.few_steps)) (omega (arith, limits_too.few_steps)) run.0 i;
+        order = order_text_injective one.bounds.order other.bounds.order p.is_job.order q.is_job.order order.0 i;
+      };
+      inputs = inputs_same one.inputs other.inputs order.1 i;
     }
 
 check_job_same : (words : List (List ℕ)) (one other : CheckJob) → CheckJobOf words one → CheckJobOf words other → one ≡ other
@@ -51,37 +64,20 @@ check_job_same words one other p q =
       inputs = inputs_same one.inputs other.inputs names i;
     }
 
--- the name of the option is no file name
-no_option : (inputs : Inputs) (value : List ℕ) (names : List (List ℕ)) → IsTrue (is_file_name inputs.domain) → codes "--run" ∷ value ∷ names ≡ names_of inputs → ⊥
-no_option inputs value names is same =
-    let option : inputs.domain ≡ codes "--run" = cc in
-    let none : IsTrue (is_file_name (codes "--run")) = subst (λ (name : List ℕ). IsTrue (is_file_name name)) option is in
-    false≢true none
-
--- a limit and inputs
-limited_same : (words : List (List ℕ)) (run run_too : ℕ) (one other : Inputs) → run < 2 ^ 64 → run_too < 2 ^ 64 → IsTrue (is_file_name one.domain) → IsTrue (is_file_name other.domain) → TellsLimit words run one → TellsLimit words run_too other → (run ≡ run_too) × (one ≡ other)
-limited_same words run run_too one other few few_too is is_too (told p) (told q) =
-    let both = sym p ∙ q in
-    let same : decimal run ≡ decimal run_too = cc in
-    let names : names_of one ≡ names_of other = cc in
-    (decimal_injective run run_too few few_too same, inputs_same one other names)
-limited_same words run run_too one other few few_too is is_too (told p) (untold q limit) = absurd (no_option other (decimal run) (names_of one) is_too (sym p ∙ q))
-limited_same words run run_too one other few few_too is is_too (untold p limit) (told q) = absurd (no_option one (decimal run_too) (names_of other) is (sym q ∙ p))
-limited_same words run run_too one other few few_too is is_too (untold p limit) (untold q limit_too) = (limit ∙ sym limit_too, inputs_same one other (sym p ∙ q))
-
 run_job_same : (words : List (List ℕ)) (one other : RunJob) → RunJobOf words one → RunJobOf words other → one ≡ other
 run_job_same words one other p q =
     let both = sym p.spelled ∙ q.spelled in
     let pointers : decimal one.pointers ≡ decimal other.pointers = cc in
     let program : one.program ≡ other.program = cc in
-    let others : q.others ≡ p.others = cc in
-    let limit : TellsLimit p.others other.run other.inputs = subst (λ (o : List (List ℕ)). TellsLimit o other.run other.inputs) others q.limit in
-    let limited = limited_same p.others one.run other.run one.inputs other.inputs (omega (arith, p.is_job.most_run)) (omega (arith, q.is_job.most_run)) p.is_job.inputs.domain q.is_job.inputs.domain p.limit limit in
+    let after_program : q.after_program ≡ p.after_program = cc in
+    let here = tells_exactly (codes "--run") decimal USUAL_RUN one.run p.after_program (names_of one.inputs) (no_names (codes "--run") one.inputs refl p.is_job.inputs.domain) p.run in
+    let there : Tells (codes "--run") decimal USUAL_RUN other.run p.after_program (names_of other.inputs) = subst (λ (w : List (List ℕ)). Tells (codes "--run") decimal USUAL_RUN other.run w (names_of other.inputs)) after_program q.run in
+    let run = told_same (codes "--run") decimal USUAL_RUN one.run other.run p.after_program (names_of one.inputs) (names_of other.inputs) here (no_names (codes "--run") other.inputs refl q.is_job.inputs.domain) there in
     λ i. record {
       pointers = decimal_injective one.pointers other.pointers (omega (arith, p.is_job.few_pointers)) (omega (arith, q.is_job.few_pointers)) pointers i;
-      run = limited.0 i;
+      run = decimal_injective one.run other.run (omega (arith, p.is_job.most_run)) (omega (arith, q.is_job.most_run)) run.0 i;
       program = program i;
-      inputs = limited.1 i;
+      inputs = inputs_same one.inputs other.inputs run.1 i;
     }
 
 -- the commands differ

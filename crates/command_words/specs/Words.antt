@@ -5,7 +5,11 @@ use Rattle.flag_rules.specs.Line.{lines_of}
 use Rattle.program_model.specs.declared.alphabet.TheConstants.{MAX_LINES}
 use Rattle.program_model.specs.declared.machine.TheConstants.{MAX_INSTANCES, MAX_POINTERS}
 use Rattle.interpreter.specs.declared.plain_run.TheConstants.{MAX_RUN}
-use Rattle.command_words.specs.declared.job.TheConstants.{LEAST_RUN, MAX_SYNTH_LINES, USUAL_RUN}
+use Rattle.evaluations.specs.declared.evaluation.Evaluation.{Evaluation}
+use Rattle.evaluations.specs.declared.evaluation.Evaluation.TheVariants.{Jumps, MissingAtoms}
+use Rattle.evaluations.specs.Orders.{IsOrder, order_text}
+use Rattle.synthesis.specs.BestFirst.{AreWithinLimits}
+use Rattle.command_words.specs.declared.job.TheConstants.{LEAST_BUDGET, LEAST_RUN, USUAL_BUDGET, USUAL_RUN}
 use Rattle.command_words.specs.declared.job.Job.{Job}
 use Rattle.command_words.specs.declared.job.Job.TheVariants.{Synth, Check, Run}
 use Rattle.command_words.specs.declared.job.Inputs.{Inputs}
@@ -35,12 +39,14 @@ pub record AreInputs (inputs : Inputs) : Type 0 where
   pub some_instances : 0 < length inputs.instances
   pub few_instances : length inputs.instances ≤ MAX_INSTANCES
 
--- the numbers of a search are within their limits
+-- the numbers of a search are within their limits, and its evaluations are an order
 pub record IsSynthJob (job : SynthJob) : Type 0 where
   pub some_pointers : 0 < job.pointers
   pub few_pointers : job.pointers ≤ MAX_POINTERS
-  pub some_lines : 0 < job.lines
-  pub few_lines : job.lines ≤ MAX_SYNTH_LINES
+  pub bounds : AreWithinLimits job.bounds
+  pub some_splits : LEAST_BUDGET ≤ job.bounds.budget
+  pub least_run : LEAST_RUN ≤ job.bounds.run
+  pub order : IsOrder job.bounds.order
   pub inputs : AreInputs job.inputs
 
 -- the numbers of a check are within their limits
@@ -66,9 +72,26 @@ IsJob (Synth job) = IsSynthJob job
 IsJob (Check job) = IsCheckJob job
 IsJob (Run job) = IsRunJob job
 
--- the words after `synth`: some pointers, lines and inputs, with the options in this order
+-- the order where the words tell none
+abbrev pub usual_order : List Evaluation
+usual_order = MissingAtoms ∷ Jumps ∷ []
+
+-- an option that may be left out: words tell it by its name and the text of a value, and go on with others; or they are those others,
+-- and the value is the usual one
+pub data Tells {A : Type 0} (name : List ℕ) (spelled : A → List ℕ) (usual value : A) (words others : List (List ℕ)) : Type 0 where
+  told : words ≡ name ∷ spelled value ∷ others → Tells name spelled usual value words others
+  untold : words ≡ others → value ≡ usual → Tells name spelled usual value words others
+
+-- the words after `synth`: some pointers and lines, maybe a budget, a limit of steps and an order, and inputs, with the options in
+-- this order
 pub record SynthJobOf (words : List (List ℕ)) (job : SynthJob) : Type 0 where
-  pub spelled : words ≡ codes "--pointers" ∷ decimal job.pointers ∷ codes "--lines" ∷ decimal job.lines ∷ names_of job.inputs
+  pub after_lines : List (List ℕ)
+  pub after_budget : List (List ℕ)
+  pub after_run : List (List ℕ)
+  pub spelled : words ≡ codes "--pointers" ∷ decimal job.pointers ∷ codes "--lines" ∷ decimal job.bounds.lines ∷ after_lines
+  pub budget : Tells (codes "--budget") decimal USUAL_BUDGET job.bounds.budget after_lines after_budget
+  pub run : Tells (codes "--run") decimal USUAL_RUN job.bounds.run after_budget after_run
+  pub order : Tells (codes "--order") order_text usual_order job.bounds.order after_run (names_of job.inputs)
   pub is_job : IsSynthJob job
 
 -- the words after `check`: some pointers, lines, a document and inputs, with the options in this order
@@ -76,16 +99,11 @@ pub record CheckJobOf (words : List (List ℕ)) (job : CheckJob) : Type 0 where
   pub spelled : words ≡ codes "--pointers" ∷ decimal job.pointers ∷ codes "--lines" ∷ decimal job.lines ∷ codes "--answer" ∷ job.answer ∷ names_of job.inputs
   pub is_job : IsCheckJob job
 
--- a limit of steps and inputs: the limit is told by an option, or it is the one that is taken without
-pub data TellsLimit (words : List (List ℕ)) (run : ℕ) (inputs : Inputs) : Type 0 where
-  told : words ≡ codes "--run" ∷ decimal run ∷ names_of inputs → TellsLimit words run inputs
-  untold : words ≡ names_of inputs → run ≡ USUAL_RUN → TellsLimit words run inputs
-
 -- the words after `run`: some pointers, a program, maybe a limit of steps, and inputs, with the options in this order
 pub record RunJobOf (words : List (List ℕ)) (job : RunJob) : Type 0 where
-  pub others : List (List ℕ)
-  pub spelled : words ≡ codes "--pointers" ∷ decimal job.pointers ∷ codes "--program" ∷ job.program ∷ others
-  pub limit : TellsLimit others job.run job.inputs
+  pub after_program : List (List ℕ)
+  pub spelled : words ≡ codes "--pointers" ∷ decimal job.pointers ∷ codes "--program" ∷ job.program ∷ after_program
+  pub run : Tells (codes "--run") decimal USUAL_RUN job.run after_program (names_of job.inputs)
   pub is_job : IsRunJob job
 
 -- the words are those of the job: its command first

@@ -1,12 +1,16 @@
 use flag_rules::{List, Text};
+use synthesis::Bounds;
 
-/// The greatest number of lines that `synth` takes so far.
-pub const MAX_SYNTH_LINES: u8 = 3;
+/// The least budget of splits that `synth` takes.
+pub const LEAST_BUDGET: u32 = 1;
 
-/// The least limit of steps that `run` takes.
+/// The budget of splits where the words tell none.
+pub const USUAL_BUDGET: u32 = 10_000;
+
+/// The least limit of steps of a run that `synth` and `run` take.
 pub const LEAST_RUN: u64 = 4;
 
-/// The limit of steps that `run` takes where the words tell none.
+/// The limit of steps of a run where the words tell none.
 pub const USUAL_RUN: u64 = 100_000;
 
 /// What the words of a command ask for.
@@ -25,8 +29,9 @@ pub enum Job {
 pub struct SynthJob {
     /// How many pointers programs have, from 1 to `MAX_POINTERS`.
     pub pointers: u8,
-    /// How many lines programs have at most, from 1 to `MAX_SYNTH_LINES`.
-    pub lines: u8,
+    /// How far it goes: its lines, from 1 to `MAX_LINES`; its budget, from `LEAST_BUDGET` to `MAX_BUDGET`; and its limit of
+    /// steps, from `LEAST_RUN` to `MAX_RUN`.
+    pub bounds: Bounds,
     pub inputs: Inputs,
 }
 

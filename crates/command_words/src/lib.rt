@@ -6,11 +6,14 @@
 mod job;
 mod laws;
 mod number;
+mod option;
 mod reading;
 mod refusal;
 mod usage;
 
-pub use job::{CheckJob, Inputs, Job, LEAST_RUN, MAX_SYNTH_LINES, RunJob, SynthJob, USUAL_RUN};
+pub use job::{
+    CheckJob, Inputs, Job, LEAST_BUDGET, LEAST_RUN, RunJob, SynthJob, USUAL_BUDGET, USUAL_RUN,
+};
 pub use laws::{at_most_one_job, limits, the_job_of_words_keeps_its_limits};
 pub use reading::job_of;
 pub use refusal::JobRefusal;

@@ -1,15 +1,16 @@
 ghost use Rattle.std.specs.Prelude.{◌≡◌, ◌↔◌, ◌<◌, ◌≤◌, IsTrue, IfOk, All, length, map, string_bytes};
 ghost use Rattle.program_model.specs.declared.machine.TheConstants.{MAX_INSTANCES};
 ghost use Rattle.command_words.specs.Words.{IsReading, JobOf, SynthJobOf, CheckJobOf, RunJobOf, is_file_name};
-ghost use Rattle.command_words.specs.Inner.Parts.{AreLimited, AreInputsOf};
+ghost use Rattle.command_words.specs.Inner.Parts.{AreInputsOf};
 
-use crate::job::{CheckJob, Inputs, Job, LEAST_RUN, MAX_SYNTH_LINES, RunJob, SynthJob, USUAL_RUN};
-use crate::number::{count_of, number_of};
+use crate::job::{CheckJob, Inputs, Job, RunJob, SynthJob};
+use crate::number::count_of;
+use crate::option::{budget_option, order_option, run_option};
 use crate::refusal::JobRefusal;
 use flag_rules::{List, OutOfMemory, Text};
-use interpreter::MAX_RUN;
 use program_model::{MAX_INSTANCES, MAX_LINES, MAX_POINTERS};
 use std::alloc::Global;
+use synthesis::Bounds;
 
 /// Reads the words of a command, without the program's own name.
 pub fn job_of(alloc: Global, words: &[String]) -> Result<Job, JobRefusal>
@@ -33,7 +34,7 @@ pub fn job_of(alloc: Global, words: &[String]) -> Result<Job, JobRefusal>
 fn synth_job_of(alloc: Global, words: &[String]) -> Result<SynthJob, JobRefusal>
     ensures { IsReading (SynthJobOf (map string_bytes words.now)) result }
 {
-    let [pointers_option, pointers, lines_option, lines, inputs @ ..] = words else {
+    let [pointers_option, pointers, lines_option, lines, others @ ..] = words else {
         return Err(JobRefusal::Usage);
     };
     if pointers_option.as_str() != "--pointers" || lines_option.as_str() != "--lines" {
@@ -42,13 +43,27 @@ fn synth_job_of(alloc: Global, words: &[String]) -> Result<SynthJob, JobRefusal>
     let Some(pointers) = count_of(pointers, MAX_POINTERS) else {
         return Err(JobRefusal::Usage);
     };
-    let Some(lines) = count_of(lines, MAX_SYNTH_LINES) else {
+    let Some(lines) = count_of(lines, MAX_LINES) else {
+        return Err(JobRefusal::Usage);
+    };
+    let Some((budget, others)) = budget_option(others) else {
+        return Err(JobRefusal::Usage);
+    };
+    let Some((run, others)) = run_option(others) else {
+        return Err(JobRefusal::Usage);
+    };
+    let Some((order, inputs)) = order_option(others) else {
         return Err(JobRefusal::Usage);
     };
     let inputs = inputs_of(alloc, inputs)?;
     Ok(SynthJob {
         pointers,
-        lines,
+        bounds: Bounds {
+            lines,
+            budget,
+            run,
+            order,
+        },
         inputs,
     })
 }
@@ -116,42 +131,16 @@ fn run_job_of(alloc: Global, words: &[String]) -> Result<RunJob, JobRefusal>
     if !is_file_name(program.as_bytes()) {
         return Err(JobRefusal::Usage);
     }
-    let limited = limited_of(alloc, others)?;
+    let Some((run, inputs)) = run_option(others) else {
+        return Err(JobRefusal::Usage);
+    };
+    let inputs = inputs_of(alloc, inputs)?;
     Ok(RunJob {
         pointers,
-        run: limited.run,
+        run,
         program: Text::of(alloc, program.as_bytes())?,
-        inputs: limited.inputs,
+        inputs,
     })
-}
-
-/// Inputs, and how many steps a run over them has at most.
-#[derive(Debug, Drop)]
-struct Limited {
-    run: u64,
-    inputs: Inputs,
-}
-
-// Reads the words after the program of `run`: an option with a limit of steps, which may be left out, and inputs.
-fn limited_of(alloc: Global, words: &[String]) -> Result<Limited, JobRefusal>
-    ensures { IsReading (AreLimited (map string_bytes words.now)) result }
-{
-    match words {
-        [option, run, inputs @ ..] if option.as_str() == "--run" => {
-            let Some(run) = number_of(run, LEAST_RUN, MAX_RUN) else {
-                return Err(JobRefusal::Usage);
-            };
-            let inputs = inputs_of(alloc, inputs)?;
-            Ok(Limited { run, inputs })
-        }
-        _ => {
-            let inputs = inputs_of(alloc, words)?;
-            Ok(Limited {
-                run: USUAL_RUN,
-                inputs,
-            })
-        }
-    }
 }
 
 // Reads the names of a domain file and of from 1 to `MAX_INSTANCES` instance files.

@@ -1,2 +1,3 @@
 -- What only private functions and laws cite.
 pub mod KeyOrder
+pub mod Lines

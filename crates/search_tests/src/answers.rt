@@ -3,13 +3,14 @@
 
 use crate::counters::{Counters, Tally};
 use crate::marks::read_mark;
+use evaluations::Order;
 use flag_rules::{List, OutOfMemory};
 use refutation_check::accepts;
 use refutation_tree::{Mark, Tree};
 use std::alloc::Global;
 use std::process::Abort;
 use std::test::Fail;
-use synthesis::search;
+use synthesis::{Bounds, search};
 
 // A program of three lines solves the first counter. Its tree of that size has to be of the grammar alone.
 const CHANGES_OF_A_PROGRAM: &str = "\
@@ -178,8 +179,14 @@ fn is_accepted(
     let Some((size, place, mark)) = read_change(change) else {
         return Ok(None);
     };
+    let bounds = Bounds {
+        lines: 3,
+        budget: 10_000,
+        run: 100_000,
+        order: Order::usual(),
+    };
     let mut tally = Tally { acts: 0, copies: 0 };
-    let mut answer = search(alloc, machine, 3, &mut tally)?;
+    let mut answer = search(alloc, machine, &bounds, &mut tally)?;
     answer.trees = with_mark(alloc, answer.trees.as_slice(), size, place, mark)?;
     Ok(Some(accepts(alloc, machine, 3, &answer, &mut tally)?))
 }

@@ -7,7 +7,11 @@ mod answers;
 #[cfg(test)]
 mod counters;
 #[cfg(test)]
+mod frontiers;
+#[cfg(test)]
 mod marks;
+#[cfg(test)]
+mod orders;
 #[cfg(test)]
 mod programs;
 #[cfg(test)]

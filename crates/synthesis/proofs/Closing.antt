@@ -9,7 +9,7 @@ abbrev first_of : {A : Type 0} → (Node → Option A) → List Node → Option 
 first_of f [] = None
 first_of f (node ∷ nodes) = or_else (f node) (first_of f nodes)
 
-or_else_none : {A : Type 0} (o : Option A) → or_else o None ≡ o
+pub or_else_none : {A : Type 0} (o : Option A) → or_else o None ≡ o
 or_else_none None = refl
 or_else_none (Some a) = refl
 

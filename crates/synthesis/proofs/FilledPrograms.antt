@@ -55,7 +55,7 @@ module _ {C : Type 0} (s : Setting C) (size : ℕ) where
   first_of_two (split line stamp) p q later sized k e = k e
   first_of_two twin p q later sized k e = k e
 
-  first_solved_sized : (nodes : List Node) (q : Program) → Each (λ (node : Node). IsSized node.program) nodes → first_solved nodes ≡ Some q → IsSized q
+  pub first_solved_sized : (nodes : List Node) (q : Program) → Each (λ (node : Node). IsSized node.program) nodes → first_solved nodes ≡ Some q → IsSized q
   first_solved_sized [] q sized e = absurd (none-some q e)
   first_solved_sized (node ∷ nodes) q sized e = first_of_two node.state node.program q (first_solved nodes) sized.0 (first_solved_sized nodes q sized.1) e
 

@@ -8,7 +8,8 @@ use Rattle.std.proofs.lemmas.Option.{none-some, same_Some}
 use Rattle.program_model.specs.Alphabet.{alphabet}
 use Rattle.program_model.specs.declared.verdict.Verdict.TheVariants as verdicts
 use Rattle.program_model.proofs.Places.{contains_at}
-use Rattle.synthesis.specs.Search.{Setting, judged, split, Node, is_waiting, comes_before, IsRoot, AreChildren, Splits, Close, found, run_spent, budget_spent, refuted, Closes, StaysOpen, Leads, here, next, SearchesSize}
+use Rattle.synthesis.specs.Search.{Setting, judged, split, Node, is_waiting, IsRoot, AreChildren, Splits, Close, found, run_spent, budget_spent, refuted, Closes, StaysOpen, Leads, here, next, SearchesSize}
+use Rattle.evaluations.specs.Keys.{comes_before}
 use Rattle.refutation_tree.proofs.Lists.{each_left, each_right}
 use Rattle.synthesis.proofs.Lists.{each_more}
 use Rattle.synthesis.proofs.Growing.{empty_alone, root_grown, leads_grown}

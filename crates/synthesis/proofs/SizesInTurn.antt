@@ -6,8 +6,8 @@ use Rattle.refutation_tree.specs.declared.evidence.Tree.{Tree}
 use Rattle.refutation_tree.specs.declared.evidence.Outcome.TheVariants as outcomes
 use Rattle.refutation_tree.specs.declared.evidence.Answer.{Answer}
 use Rattle.refutation_tree.specs.Accepted.{AreEndsFrom}
-use Rattle.synthesis.specs.declared.turn.Ending.{Ending}
-use Rattle.synthesis.specs.declared.turn.Ending.TheVariants as endings
+use Rattle.synthesis.specs.declared.newest.Ending.{Ending}
+use Rattle.synthesis.specs.declared.newest.Ending.TheVariants as endings
 use Rattle.synthesis.specs.Search.{Setting, Node, SearchesSize}
 use Rattle.synthesis.specs.Answers.{tree_of, RefutesSizes, none, next, Fills, Concludes, closed, nothing, IsAnswer}
 use Rattle.synthesis.specs.Inner.Nodes.{close_of}

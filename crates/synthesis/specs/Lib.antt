@@ -1,3 +1,5 @@
 pub mod Search
 pub mod Answers
+pub mod BestFirst
+pub mod Spent
 pub mod Inner

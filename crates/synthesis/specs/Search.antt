@@ -1,6 +1,6 @@
 -- The search at one size: its nodes are partial programs; a split puts the children of the best waiting node behind it.
 -- All runs are those from the first configuration.
-use Rattle.std.specs.Prelude.{◌≡◌, ℕ, ◌+◌, ◌<◌, ◌≤◌, ◌==◌, nat_lt, Bool, true, false, MatchBool, List, [], ◌∷◌, ◌++◌, length, take, drop, slice_get, All, Option, Some, None, is_some, if◌then◌else◌}
+use Rattle.std.specs.Prelude.{◌≡◌, ℕ, ◌+◌, ◌<◌, ◌≤◌, Bool, true, false, MatchBool, List, [], ◌∷◌, ◌++◌, length, take, drop, slice_get, All, Option, Some, None, is_some}
 use Rattle.std.specs.List.{list_any}
 use Rattle.program_model.specs.declared.instr.Instr.{Instr}
 use Rattle.program_model.specs.Alphabet.{alphabet}
@@ -14,7 +14,8 @@ use Rattle.program_model.specs.Outcome.{AreOutcomes}
 use Rattle.program_model.specs.Verdict.{IsVerdict}
 use Rattle.refutation_tree.specs.declared.evidence.Mark.{Mark}
 use Rattle.refutation_tree.specs.declared.evidence.Mark.TheVariants as marks
-use Rattle.refutation_tree.specs.Covers.{Skips, nobody}
+use Rattle.refutation_tree.specs.Covers.{Skips}
+use Rattle.evaluations.specs.Keys.{comes_before}
 
 -- what a search is over: a machine, the limit of steps of a run, the key of a waiting node by its program and the outcomes of
 -- its runs, and which children are passed over
@@ -23,10 +24,6 @@ pub record Setting (C : Type 0) : Type 0 where
   pub limit : ℕ
   pub key_of : Program → List RunOutcome → List ℕ
   pub skips : Skips
-
--- the search in which every key is empty and no child is passed over
-abbrev pub plain : {C : Type 0} → Semantics C → ℕ → Setting C
-plain m limit = record { machine = m; limit = limit; key_of = λ q runs. []; skips = nobody }
 
 -- what became of a node: judged by its runs; split at a line, as the split of a stamp; or passed over as a twin
 pub data State : Type 0 where
@@ -84,13 +81,6 @@ waits_at twin = None
 
 abbrev pub is_waiting : Node → Bool
 is_waiting node = is_some (waits_at node.state)
-
--- keys go entry by entry, the lesser first, and a key before those that it begins; of equal keys the lesser number is first
-abbrev pub comes_before : List ℕ → ℕ → List ℕ → ℕ → Bool
-comes_before [] number [] other = nat_lt number other
-comes_before [] number (second ∷ seconds) other = true
-comes_before (first ∷ firsts) number [] other = false
-comes_before (first ∷ firsts) number (second ∷ seconds) other = if first == second then comes_before firsts number seconds other else nat_lt first second
 
 -- one split: of the nodes that wait, the one with the least key and number is split at its line, and its children, with
 -- the next numbers, stand behind it

@@ -1,19 +1,20 @@
 ghost use Rattle.std.specs.Prelude.{◌≡◌, ℕ, ◌<◌, ◌≤◌, List, [], ◌∷◌};
 ghost use Rattle.program_model.specs.declared.alphabet.TheConstants.{MAX_LINES};
 ghost use Rattle.program_model.specs.declared.machine.TheConstants.{MAX_INSTANCES, MAX_POINTERS};
+ghost use Rattle.refutation_tree.specs.declared.evidence.Outcome.TheVariants as outcomes;
 ghost use Rattle.refutation_tree.specs.declared.evidence.Answer.{Answer};
 ghost use Rattle.refutation_tree.specs.declared.ranges.TheConstants.{MAX_SPLITS, MAX_STEPS};
 ghost use Rattle.refutation_tree.specs.Accepted.{IsAccepted};
 ghost use Rattle.refutation_tree.specs.Grammar.{IsFromOneTo};
 ghost use Rattle.synthesis.specs.Search.{Setting, Node, Leads, newest, first_solved, first_limited};
 ghost use Rattle.synthesis.specs.Answers.{IsAnswer};
+ghost use Rattle.synthesis.specs.Spent.{SpendsBudget, SpendsRun};
 
-use crate::{BUDGET, RUN_LIMIT};
+use crate::MAX_BUDGET;
 
-/// A law: the limits of a search, as numbers.
+/// A law: the greatest budget of a search, as a number.
 pub fn limits()
-    ensures budget { BUDGET ≡ 10000 }
-    ensures run { RUN_LIMIT ≡ 100000 }
+    ensures { MAX_BUDGET ≡ 100000 }
 {}
 
 /// A law over all machines that have an operation: the answer of a search is accepted, whatever orders the nodes that wait
@@ -43,4 +44,21 @@ pub fn sizes_close_at_the_last_split<C>()
     ensures limited { (setting : Setting C) (budget from stamp : ℕ) (root : Node) (nodes : List Node)
         (leads : Leads setting budget from (root ∷ []) stamp nodes) →
         first_limited nodes ≡ first_limited (newest setting budget from (root ∷ []) stamp nodes leads) }
+{}
+
+/// A law over all machines: where a search answers that it spent its budget, its trees have as many splits as the budget, no
+/// more and no fewer, and in the last a partial program still waits to be split.
+pub fn a_spent_budget_is_shown<C>()
+    ensures { (setting : Setting C) (budget lines size : ℕ) (answer : Answer) →
+        IsAnswer setting budget lines answer → answer.outcome ≡ outcomes.SpentExpansions size →
+        SpendsBudget budget size answer.trees }
+{}
+
+/// A law over all machines: where a search answers that it spent a run, the first mark at a limit in its last tree stands for
+/// a partial program of that size, whose run on that instance makes as many steps as the limit, and comes to no configuration
+/// twice in the first third of them.
+pub fn a_spent_run_is_shown<C>()
+    ensures { (setting : Setting C) (budget lines size t : ℕ) (answer : Answer) →
+        IsAnswer setting budget lines answer → answer.outcome ≡ outcomes.SpentRun size t →
+        SpendsRun setting.machine setting.limit size t answer.trees }
 {}

@@ -1,131 +1,141 @@
-ghost use Rattle.std.specs.Prelude.{◌≡◌, ◌+◌, ◌<◌, ◌++◌, IfOk, OnOk, map, take, drop, vec_len};
-ghost use Rattle.synthesis.specs.declared.nodes.Entry.{Entry};
-ghost use Rattle.synthesis.specs.Search.{judged, split, mark_of, waits_at, solved_program, limited_at};
-ghost use Rattle.synthesis.specs.Answers.{tree_of};
-ghost use Rattle.synthesis.specs.Inner.Nodes.{state_of, node_of};
+ghost use Rattle.std.specs.Prelude.{◌≡◌, ◌+◌, ◌<◌, ◌≤◌, ◌≢◌, ◌^◌, [], IfOk, OnOk, All, IsTrue, ◌↔◌, map, length, ℕ, List};
+ghost use Rattle.synthesis.specs.Search.{mark_of};
+ghost use Rattle.synthesis.specs.Inner.Nodes.{state_of};
+ghost use Rattle.synthesis.specs.Inner.Splitting.{AreNumbers, IsHeldWaiting, TakesBest, AddsJudged};
 
-use flag_rules::{List, OutOfMemory};
+use crate::judgement::Judgement;
+use evaluations::{ByKey, Compared};
+use flag_rules::OutOfMemory;
+use frontier::Frontier;
 use program_model::{Cause, Partial, Verdict};
-use refutation_tree::{Mark, Tree};
+use refutation_tree::Mark;
 use std::alloc::Global;
+use std::mem;
 
-/// What became of a node of the search.
-#[derive(Clone, Copy, Debug, Drop)]
-pub(crate) enum State {
-    /// It is judged by its runs.
-    Judged(Verdict),
-    /// It was split at this line, as the split of this number.
-    Split { line: u8, stamp: u32 },
+/// What is held of a node.
+#[derive(Debug, Drop)]
+pub(crate) enum Held {
+    /// The run on an instance refutes it.
+    Refused { t: u8, cause: Cause },
+    /// The run on an instance is at its limit.
+    AtLimit { t: u8 },
+    Solved,
+    /// It waits to be split at a line of its program.
+    Waiting { line: u8, program: Box<Partial> },
+    /// It was split at a line, as the split of a number. Its children stand in a row, the first of them at a number.
+    Split { line: u8, stamp: u32, first: u32 },
 }
 
-impl State {
-    /// The mark of a node in this state.
-    fn mark(&self) -> Mark
+impl Held {
+    /// How the node is marked in the tree of its size.
+    pub(crate) fn mark(&self) -> Mark
         ensures { result ≡ mark_of (state_of self.now) }
     {
-        match *self {
-            State::Judged(verdict) => mark_of_verdict(verdict),
-            State::Split { line, stamp } => Mark::Split { line, stamp },
+        match self {
+            Held::Refused { t, cause } => mark_of_cause(*t, *cause),
+            Held::AtLimit { t } => Mark::AtLimit { t: *t },
+            Held::Solved => Mark::Solved,
+            Held::Waiting { .. } => Mark::Waiting,
+            Held::Split { line, stamp, .. } => Mark::Split {
+                line: *line,
+                stamp: *stamp,
+            },
         }
     }
 }
 
-// The mark of a node that was judged and not split.
-fn mark_of_verdict(verdict: Verdict) -> Mark
-    ensures { result ≡ mark_of (judged verdict) }
+// The mark of a node that the run on an instance refutes.
+fn mark_of_cause(t: u8, cause: Cause) -> Mark
+    ensures { result ≡ mark_of (state_of (Held.Refused t cause)) }
 {
-    match verdict {
-        Verdict::Refused { t, cause } => match cause {
-            Cause::Unmet { steps } => Mark::Unmet { t, steps },
-            Cause::Loops { from, to } => Mark::Loops { t, from, to },
-        },
-        Verdict::AtLimit { t } => Mark::AtLimit { t },
-        Verdict::Waiting { .. } => Mark::Waiting,
-        Verdict::Solved => Mark::Solved,
+    match cause {
+        Cause::Unmet { steps } => Mark::Unmet { t, steps },
+        Cause::Loops { from, to } => Mark::Loops { t, from, to },
     }
 }
 
-/// A node of the search of one size.
+/// A node that is being split.
 #[derive(Debug, Drop)]
-pub(crate) struct Entry {
-    /// How many nodes of the size were made before it.
-    pub number: usize,
-    pub program: Partial,
-    pub state: State,
+pub(crate) struct Parent {
+    pub line: u8,
+    pub program: Box<Partial>,
 }
 
-impl Entry {
-    /// The line where it waits, if it does.
-    pub(crate) fn waits_at(&self) -> Option<u8>
-        ensures { result ≡ waits_at (state_of self.now.state) }
+/// The nodes of one size, by their numbers, and a frontier of those that wait.
+#[derive(Drop)]
+pub(crate) struct Nodes {
+    pub held: Vec<Held>,
+    pub frontier: Frontier<ByKey>,
+    pub compared: Compared,
+}
+
+impl Nodes {
+    /// No nodes.
+    pub(crate) fn new(alloc: Global) -> Nodes
+        ensures held { result.held.items ≡ [] }
+        ensures pairs { result.frontier.pairs ≡ [] }
     {
-        match self.state {
-            State::Judged(Verdict::Waiting { line }) => Some(line),
-            _ => None,
+        Nodes {
+            held: Vec::new(alloc),
+            frontier: Frontier::new(alloc),
+            compared: Compared::zero(),
         }
     }
 
-    /// Its program, if it is solved.
-    pub(crate) fn solved_program(&self) -> Option<Partial>
-        ensures { result ≡ solved_program (state_of self.now.state) self.now.program }
+    /// Whether one of them waits.
+    pub(crate) fn has_waiting(&self) -> bool
+        ensures { IsTrue result ↔ (self.now.frontier.pairs ≢ []) }
     {
-        match self.state {
-            State::Judged(Verdict::Solved) => Some(self.program.copy()),
-            _ => None,
-        }
+        !self.frontier.is_empty()
     }
 
-    /// The instance on which a run is at its limit, if that is its verdict.
-    pub(crate) fn limited_at(&self) -> Option<u8>
-        ensures { result ≡ limited_at (state_of self.now.state) }
+    /// Adds a node, with the next number.
+    pub(crate) fn add(
+        &mut self,
+        alloc: Global,
+        program: Partial,
+        judgement: Judgement,
+    ) -> Result<(), OutOfMemory>
+        requires few { length self.old.held.items < 2 ^ 32 }
+        requires numbers { AreNumbers self.old.held.items self.old.frontier.pairs }
+        ensures { OnOk result (AddsJudged program judgement self.old.held.items self.new.held.items self.old.frontier.pairs self.new.frontier.pairs) }
     {
-        match self.state {
-            State::Judged(Verdict::AtLimit { t }) => Some(t),
-            _ => None,
-        }
+        let number = self.held.len() as u32;
+        let held = match judgement.verdict {
+            Verdict::Refused { t, cause } => Held::Refused { t, cause },
+            Verdict::AtLimit { t } => Held::AtLimit { t },
+            Verdict::Solved => Held::Solved,
+            Verdict::Waiting { line } => {
+                self.frontier.reserve(1)?;
+                self.frontier
+                    .push(judgement.key, number, &mut self.compared);
+                Held::Waiting {
+                    line,
+                    program: Box::new(alloc, program)?,
+                }
+            }
+        };
+        self.held.push(held)?;
+        Ok(())
     }
 
-    /// The node once it is split.
-    pub(crate) fn split_at(&self, line: u8, stamp: u32) -> Entry
-        ensures { node_of result ≡ record (node_of self.now) { state = split line stamp } }
+    /// Takes out the node that waits and has the least key and number, to be split: its children are to have the next numbers.
+    pub(crate) fn take_best(&mut self, stamp: u32) -> Parent
+        requires some { self.old.frontier.pairs ≢ [] }
+        requires few { length self.old.held.items < 2 ^ 32 }
+        requires waiting { All (λ pair. IsHeldWaiting self.old.held.items pair.1) self.old.frontier.pairs }
+        ensures { TakesBest stamp self.old.held.items self.new.held.items self.old.frontier.pairs self.new.frontier.pairs result }
     {
-        Entry {
-            number: self.number,
-            program: self.program.copy(),
-            state: State::Split { line, stamp },
+        let (_, number) = self.frontier.pop_least(&mut self.compared).unwrap();
+        let first = self.held.len() as u32;
+        let held = &mut self.held[number as usize];
+        let Held::Waiting { line, .. } = held else {
+            unreachable!()
+        };
+        let line = *line;
+        match mem::replace(held, Held::Split { line, stamp, first }) {
+            Held::Waiting { program, .. } => Parent { line, program },
+            _ => unreachable!(),
         }
     }
-}
-
-// The marks of some nodes, in order.
-fn marks_of(alloc: Global, nodes: &[Entry]) -> Result<Vec<Mark>, OutOfMemory>
-    ensures { IfOk result (λ marks. marks.items ≡ map (λ (entry : Entry). mark_of (state_of entry.state)) nodes.now) }
-{
-    Ok(nodes.iter().map(|node| node.state.mark()).collect(alloc)?)
-}
-
-/// The tree of a size, from its nodes in preorder.
-pub(crate) fn tree_of(alloc: Global, size: u8, nodes: &[Entry]) -> Result<Tree, OutOfMemory>
-    ensures { IfOk result (λ tree. tree ≡ tree_of size (map node_of nodes.now)) }
-{
-    Ok(Tree {
-        size,
-        marks: List::from_vec(marks_of(alloc, nodes)?),
-    })
-}
-
-/// Puts some nodes in the place of one.
-pub(crate) fn put_in_place(
-    nodes: &mut Vec<Entry>,
-    place: usize,
-    mut put: Vec<Entry>,
-) -> Result<(), OutOfMemory>
-    requires { place < vec_len nodes.old }
-    ensures { OnOk result (nodes.new.items ≡ take place nodes.old.items ++ put.items ++ drop (place + 1) nodes.old.items) }
-{
-    let mut rest = nodes.split_off(place + 1)?;
-    nodes.truncate(place);
-    nodes.append(&mut put)?;
-    nodes.append(&mut rest)?;
-    Ok(())
 }

@@ -1,140 +1,129 @@
-ghost use Rattle.std.specs.Prelude.{◌≡◌, ℕ, ◌<◌, ◌≤◌, ◌^◌, length, Some, IfOk, OnOk};
+ghost use Rattle.std.specs.Prelude.{◌≡◌, ℕ, ◌+◌, ◌*◌, ◌<◌, ◌≤◌, ◌^◌, [], ◌∷◌, List as Sequence, length, IfOk, OnOk};
 ghost use Rattle.program_model.specs.Alphabet.{alphabet};
-ghost use Rattle.program_model.specs.Program.{IsPartial, IsOpen, IsInstr};
-ghost use Rattle.interpreter.specs.declared.plain_run.TheConstants.{MAX_RUN};
-ghost use Rattle.synthesis.specs.Search.{plain, waits_at, IsJudged, IsChild, AreChildren, Splits, SearchesSize};
-ghost use Rattle.synthesis.specs.Answers.{Concludes, IsAnswer};
-ghost use Rattle.synthesis.specs.Inner.Nodes.{node_of, nodes_of, state_of, close_of, IsSound, AreSound, IsEndingOn, ComesFirst, AreFamily, HasCome};
+ghost use Rattle.program_model.specs.Program.{IsPartial, IsOpen, IsInstr, with_line};
+ghost use Rattle.program_model.specs.declared.alphabet.TheConstants.{MAX_LINES};
+ghost use Rattle.synthesis.specs.Search.{Node};
+ghost use Rattle.synthesis.specs.Answers.{Concludes, tree_of};
+ghost use Rattle.synthesis.specs.BestFirst.{AreWithinLimits, best_first, IsBestFirstAnswer};
+ghost use Rattle.synthesis.specs.Inner.Nodes.{MOST_CHILDREN, AreInPreorder, LinksOn, IsSoundEnd, HasGrown, CanGrow, close_of, IsEndingOn, IsSearched};
+ghost use Rattle.synthesis.specs.Inner.Splitting.{AreNumbers, AddsNewest, AddsChildren};
 
-use crate::bounds::{BUDGET, RUN_LIMIT};
+use crate::Bounds;
 use crate::fill::filled;
 use crate::judgement::{ends_of, judge};
-use crate::nodes::{Entry, State, put_in_place, tree_of};
-use crate::turn::{Ending, Turn, Waiting, next_turn};
+use crate::newest::{Ending, Newest};
+use crate::nodes::{Nodes, Parent};
+use crate::walk::tree_of;
 use flag_rules::{List, OutOfMemory};
-use program_model::{Instr, MAX_LINES, Machine, Partial, alphabet_len, instr_at};
+use program_model::{Instr, Machine, Partial, alphabet_len, instr_at};
 use refutation_tree::{Answer, Outcome, Tree};
 use std::alloc::Global;
 
 /// Searches for a smallest program of at most so many lines that solves every instance of a machine.
 ///
-/// Sizes are tried from 1 on, and of the nodes of a size that wait, the one that was made first is split. An error is want of
-/// memory alone.
+/// Sizes are tried from 1 on, and of the nodes of a size that wait, the best by the order is split first; of equally good ones
+/// the one that was made first. An error is want of memory alone.
 pub fn search<M: Machine>(
     alloc: Global,
     machine: &M,
-    lines: u8,
+    bounds: &Bounds,
     meter: &mut M::Meter,
 ) -> Result<Answer, OutOfMemory>
-    requires some { 0 < lines }
-    requires few { lines ≤ MAX_LINES }
-    ensures { IfOk result (λ answer. IsAnswer (plain (M.semantics machine.now) RUN_LIMIT) BUDGET lines answer) }
+    requires { AreWithinLimits bounds.now }
+    ensures { IfOk result (λ answer. IsBestFirstAnswer (M.semantics machine.now) bounds.now answer) }
 {
     let searcher = Searcher {
         alloc,
         machine,
-        limit: RUN_LIMIT,
+        bounds,
     };
-    searcher.search_sizes(lines, BUDGET, meter)
+    searcher.search_sizes(meter)
 }
 
-/// A search over a machine, whose runs have a limit of steps.
+/// A search over a machine, within bounds.
 #[derive(Drop)]
 struct Searcher<'a, M: Machine> {
     alloc: Global,
     machine: &'a M,
-    limit: u64,
-    ghost within: { limit ≤ MAX_RUN },
+    bounds: &'a Bounds,
+    ghost within: { AreWithinLimits bounds.now },
 }
 
 /// A size that is closed.
-struct Searched {
-    /// Its nodes in preorder.
-    nodes: Vec<Entry>,
+#[derive(Drop)]
+pub(crate) struct Searched {
+    pub tree: Tree,
     /// How many splits were made for all sizes up to this one.
-    stamp: u32,
+    pub stamp: u32,
     /// How it ends the search; without an ending it is refuted.
-    ending: Option<Ending>,
+    pub ending: Option<Ending>,
 }
 
 impl<M: Machine> Searcher<'_, M> {
-    /// Searches the sizes up to a number, within a budget of splits.
-    fn search_sizes(
-        &self,
-        lines: u8,
-        budget: u32,
-        meter: &mut M::Meter,
-    ) -> Result<Answer, OutOfMemory>
-        requires { lines ≤ MAX_LINES }
-        ensures { IfOk result (λ answer.
-            IsAnswer (plain (M.semantics self.now.machine.now) self.now.limit) budget lines answer) }
+    /// Searches the sizes in turn.
+    fn search_sizes(&self, meter: &mut M::Meter) -> Result<Answer, OutOfMemory>
+        ensures { IfOk result (λ answer. IsBestFirstAnswer (M.semantics self.now.machine.now) self.now.bounds.now answer) }
     {
         let mut trees = List::new(self.alloc);
         let mut stamp = 0;
-        for refuted in 0..lines {
+        for refuted in 0..self.bounds.lines {
             let size = refuted + 1;
             let Searched {
-                nodes,
+                tree,
                 stamp: after,
                 ending,
-            } = self.search_size(size, stamp, budget, meter)?;
-            trees.push(tree_of(self.alloc, size, nodes.as_slice())?)?;
+            } = self.search_size(size, stamp, meter)?;
+            trees.push(tree)?;
             if let Some(ending) = ending {
-                return self.ended(lines, size, ending, trees, meter);
+                return self.ended(size, ending, trees, meter);
             }
             stamp = after;
         }
-        Ok(self.answer(lines, trees, Outcome::Nothing, None, List::new(self.alloc)))
+        Ok(self.answer(trees, Outcome::Nothing, None, List::new(self.alloc)))
     }
 
     /// The answer where a size ends the search.
     fn ended(
         &self,
-        lines: u8,
         size: u8,
         ending: Ending,
         trees: List<Tree>,
         meter: &mut M::Meter,
     ) -> Result<Answer, OutOfMemory>
-        requires { IsEndingOn (plain (M.semantics self.now.machine.now) self.now.limit) ending }
+        requires { IsEndingOn (best_first (M.semantics self.now.machine.now) self.now.bounds.now) ending }
         ensures pointers { IfOk result (λ answer. answer.pointers ≡ (M.semantics self.now.machine.now).pointers) }
-        ensures asked { IfOk result (λ answer. answer.lines ≡ lines) }
+        ensures asked { IfOk result (λ answer. answer.lines ≡ self.now.bounds.now.lines) }
         ensures instances { IfOk result (λ answer. answer.instances ≡ (M.semantics self.now.machine.now).instances) }
         ensures trees { IfOk result (λ answer. answer.trees ≡ trees) }
         ensures concludes { IfOk result (λ answer.
-            Concludes (plain (M.semantics self.now.machine.now) self.now.limit) size (close_of (Some ending)) answer) }
+            Concludes (best_first (M.semantics self.now.machine.now) self.now.bounds.now) size (close_of (Some ending)) answer) }
     {
+        let none = List::new(self.alloc);
         match ending {
             Ending::Found(program) => {
-                let ends = ends_of(self.alloc, self.machine, &program, self.limit, meter)?;
+                let run = self.bounds.run;
+                let ends = ends_of(self.alloc, self.machine, &program, run, meter)?;
                 let whole = filled(self.machine.ops(), &program);
-                Ok(self.answer(lines, trees, Outcome::Program { size }, Some(whole), ends))
+                Ok(self.answer(trees, Outcome::Program { size }, Some(whole), ends))
             }
-            Ending::RunSpent { t } => {
-                Ok(self.answer(
-                    lines,
-                    trees,
-                    Outcome::SpentRun { size, t },
-                    None,
-                    List::new(self.alloc),
-                ))
-            }
-            Ending::BudgetSpent => {
-                Ok(self.answer(
-                    lines,
-                    trees,
-                    Outcome::SpentExpansions { size },
-                    None,
-                    List::new(self.alloc),
-                ))
-            }
+            Ending::RunSpent { t } => Ok(self.answer(
+                trees,
+                Outcome::SpentRun { size, t },
+                None,
+                none,
+            )),
+            Ending::BudgetSpent => Ok(self.answer(
+                trees,
+                Outcome::SpentExpansions { size },
+                None,
+                none,
+            )),
         }
     }
 
-    /// An answer on the machine.
+    /// An answer on the machine, within the bounds.
     fn answer(
         &self,
-        lines: u8,
         trees: List<Tree>,
         outcome: Outcome,
         program: Option<Partial>,
@@ -142,7 +131,7 @@ impl<M: Machine> Searcher<'_, M> {
     ) -> Answer
         ensures { result ≡ record {
           pointers = (M.semantics self.now.machine.now).pointers;
-          lines = lines;
+          lines = self.now.bounds.now.lines;
           instances = (M.semantics self.now.machine.now).instances;
           outcome = outcome;
           trees = trees;
@@ -152,7 +141,7 @@ impl<M: Machine> Searcher<'_, M> {
     {
         Answer {
             pointers: self.machine.pointers(),
-            lines,
+            lines: self.bounds.lines,
             instances: self.machine.instances(),
             outcome,
             trees,
@@ -161,172 +150,148 @@ impl<M: Machine> Searcher<'_, M> {
         }
     }
 
-    /// The nodes of a size before any split: its root.
-    fn root(&self, size: u8, meter: &mut M::Meter) -> Result<Vec<Entry>, OutOfMemory>
-        requires some { 0 < size }
-        requires few { size ≤ MAX_LINES }
-        ensures root { IfOk result (λ nodes. (budget stamp : ℕ) →
-            HasCome (plain (M.semantics self.now.machine.now) self.now.limit) budget size stamp stamp (nodes_of nodes.items)) }
-        ensures sound { IfOk result
-            (λ nodes. AreSound (plain (M.semantics self.now.machine.now) self.now.limit) nodes.items) }
-    {
-        let mut nodes = Vec::new(self.alloc);
-        nodes.push(self.node(0, Partial::empty(size), meter)?)?;
-        Ok(nodes)
-    }
-
-    /// Searches the programs of a size, after so many splits of lesser sizes, within a budget of splits of all sizes
-    /// together.
+    /// Searches the programs of a size, after so many splits of lesser sizes.
     fn search_size(
         &self,
         size: u8,
         from: u32,
-        budget: u32,
         meter: &mut M::Meter,
     ) -> Result<Searched, OutOfMemory>
         requires some { 0 < size }
-        requires few { size ≤ MAX_LINES }
-        ensures searches { IfOk result (λ searched.
-            SearchesSize (plain (M.semantics self.now.machine.now) self.now.limit) budget size from searched.stamp
-            (nodes_of searched.nodes.items) (close_of searched.ending)) }
-        ensures sound { IfOk result
-            (λ searched. AreSound (plain (M.semantics self.now.machine.now) self.now.limit) searched.nodes.items) }
+        requires few { size ≤ self.now.bounds.now.lines }
+        ensures searched { IfOk result (IsSearched (best_first (M.semantics self.now.machine.now) self.now.bounds.now)
+            self.now.bounds.now.budget size from) }
+        ensures sound { IfOk result (λ searched.
+            IsSoundEnd (best_first (M.semantics self.now.machine.now) self.now.bounds.now) searched.ending) }
     {
-        let mut nodes = self.root(size, meter)?;
+        let mut nodes = Nodes::new(self.alloc);
+        let mut newest = Newest::none();
+        self.add_node(&mut nodes, Partial::empty(size), &mut newest, meter)?;
         let mut stamp = from;
         loop {
-            match next_turn(nodes.as_slice(), stamp, budget) {
-                Turn::Closed(ending) => {
-                    return Ok(Searched {
-                        nodes,
-                        stamp,
-                        ending,
-                    });
-                }
-                Turn::Split(waiting) => self.split(&mut nodes, waiting, stamp, meter)?,
+            if let Some(ending) = newest.ending() {
+                return self.closed(size, &nodes, stamp, Some(ending));
             }
+            if !nodes.has_waiting() {
+                return self.closed(size, &nodes, stamp, None);
+            }
+            if stamp >= self.bounds.budget {
+                return self.closed(size, &nodes, stamp, Some(Ending::BudgetSpent));
+            }
+            newest = self.split_best(&mut nodes, stamp, meter)?;
             stamp += 1;
         }
     }
 
-    /// A node that is split at a line, and its children behind it, with the numbers from one on.
-    fn family(
+    /// Splits the best of the nodes that wait. What its children tell is given back.
+    fn split_best(
         &self,
-        parent: &Entry,
-        line: u8,
-        stamp: u32,
-        first: usize,
-        meter: &mut M::Meter,
-    ) -> Result<Vec<Entry>, OutOfMemory>
-        requires sound { IsSound (plain (M.semantics self.now.machine.now) self.now.limit) (node_of parent.now) }
-        requires waits { waits_at (state_of parent.now.state) ≡ Some line }
-        requires first { first < 2 ^ 63 }
-        ensures family { IfOk result (λ put.
-            AreFamily (plain (M.semantics self.now.machine.now) self.now.limit) line stamp first (node_of parent.now) (nodes_of put.items)) }
-        ensures sound { IfOk result
-            (λ put. AreSound (plain (M.semantics self.now.machine.now) self.now.limit) put.items) }
-    {
-        let mut children = self.children(&parent.program, line, first, meter)?;
-        let mut put = Vec::new(self.alloc);
-        put.push(parent.split_at(line, stamp))?;
-        put.append(&mut children)?;
-        Ok(put)
-    }
-
-    /// Splits the waiting node that comes first.
-    fn split(
-        &self,
-        nodes: &mut Vec<Entry>,
-        waiting: Waiting,
+        nodes: &mut Nodes,
         stamp: u32,
         meter: &mut M::Meter,
-    ) -> Result<(), OutOfMemory>
-        requires sound { AreSound (plain (M.semantics self.now.machine.now) self.now.limit) nodes.old.items }
-        requires first { ComesFirst nodes.old.items nodes.old.items waiting }
-        ensures splits { OnOk result (Splits (plain (M.semantics self.now.machine.now) self.now.limit) stamp
-            (nodes_of nodes.old.items) (nodes_of nodes.new.items)) }
-        ensures sound { OnOk result
-            (AreSound (plain (M.semantics self.now.machine.now) self.now.limit) nodes.new.items) }
+    ) -> Result<Newest, OutOfMemory>
+        requires { (from size : ℕ) × CanGrow (best_first (M.semantics self.now.machine.now) self.now.bounds.now)
+            self.now.bounds.now.budget size from stamp nodes.old.held.items nodes.old.frontier.pairs }
+        ensures { IfOk result (λ newest. (from size : ℕ) →
+            CanGrow (best_first (M.semantics self.now.machine.now) self.now.bounds.now)
+            self.now.bounds.now.budget size from stamp nodes.old.held.items nodes.old.frontier.pairs →
+            HasGrown (best_first (M.semantics self.now.machine.now) self.now.bounds.now)
+            self.now.bounds.now.budget size from (stamp + 1) nodes.new.held.items nodes.new.frontier.pairs newest) }
     {
-        let family = self.family(
-            &nodes[waiting.place],
-            waiting.line,
-            stamp,
-            nodes.len(),
-            meter,
-        )?;
-        put_in_place(nodes, waiting.place, family)
+        let parent = nodes.take_best(stamp);
+        self.add_children(nodes, &parent, meter)
     }
 
-    /// The node of a program, with this number, judged by the program's runs.
-    fn node(
+    /// Adds the children of a node that is split.
+    fn add_children(
         &self,
-        number: usize,
-        program: Partial,
+        nodes: &mut Nodes,
+        parent: &Parent,
         meter: &mut M::Meter,
-    ) -> Result<Entry, OutOfMemory>
-        requires partial { IsPartial (M.semantics self.now.machine.now).ops program }
-        ensures number { IfOk result (λ entry. entry.number ≡ number) }
-        ensures program { IfOk result (λ entry. entry.program ≡ program) }
-        ensures is_judged { IfOk result
-            (λ entry. IsJudged (plain (M.semantics self.now.machine.now) self.now.limit) (node_of entry)) }
-        ensures sound { IfOk result
-            (λ entry. IsSound (plain (M.semantics self.now.machine.now) self.now.limit) (node_of entry)) }
-    {
-        let verdict = judge(self.alloc, self.machine, &program, self.limit, meter)?;
-        Ok(Entry {
-            number,
-            program,
-            state: State::Judged(verdict),
-        })
-    }
-
-    /// The node of a program with one more line defined.
-    fn child(
-        &self,
-        parent: &Partial,
-        line: u8,
-        instr: Instr,
-        number: usize,
-        meter: &mut M::Meter,
-    ) -> Result<Entry, OutOfMemory>
-        requires parent { IsPartial (M.semantics self.now.machine.now).ops parent.now }
-        requires line { IsOpen parent.now line }
-        requires instr { IsInstr (M.semantics self.now.machine.now).ops (length parent.now) line instr }
-        ensures child { IfOk result (λ entry.
-            IsChild (plain (M.semantics self.now.machine.now) self.now.limit) parent.now line number instr (node_of entry)) }
-        ensures sound { IfOk result
-            (λ entry. IsSound (plain (M.semantics self.now.machine.now) self.now.limit) (node_of entry)) }
-    {
-        let mut program = parent.copy();
-        program.define(line, instr);
-        self.node(number, program, meter)
-    }
-
-    /// The children of a program at a line, with the numbers from one on.
-    fn children(
-        &self,
-        parent: &Partial,
-        line: u8,
-        first: usize,
-        meter: &mut M::Meter,
-    ) -> Result<Vec<Entry>, OutOfMemory>
-        requires parent { IsPartial (M.semantics self.now.machine.now).ops parent.now }
-        requires line { IsOpen parent.now line }
-        requires first { first < 2 ^ 63 }
-        ensures children { IfOk result (λ children.
-            AreChildren (plain (M.semantics self.now.machine.now) self.now.limit) parent.now line first
-            (alphabet (M.semantics self.now.machine.now).ops (length parent.now) line) (nodes_of children.items)) }
-        ensures sound { IfOk result
-            (λ children. AreSound (plain (M.semantics self.now.machine.now) self.now.limit) children.items) }
+    ) -> Result<Newest, OutOfMemory>
+        requires parent { IsPartial (M.semantics self.now.machine.now).ops parent.now.program.value }
+        requires line { IsOpen parent.now.program.value parent.now.line }
+        requires few { length nodes.old.held.items + MOST_CHILDREN < 2 ^ 32 }
+        requires numbers { AreNumbers nodes.old.held.items nodes.old.frontier.pairs }
+        ensures few { IfOk result (λ _. length nodes.new.held.items ≤ length nodes.old.held.items + MOST_CHILDREN) }
+        ensures adds { IfOk result (λ newest. AddsChildren (best_first (M.semantics self.now.machine.now) self.now.bounds.now)
+            parent.now.program.value parent.now.line
+            (alphabet (M.semantics self.now.machine.now).ops (length parent.now.program.value) parent.now.line)
+            nodes.old.held.items nodes.new.held.items nodes.old.frontier.pairs nodes.new.frontier.pairs newest) }
     {
         let ops = self.machine.ops();
-        let lines = parent.lines();
-        let mut children = Vec::new(self.alloc);
-        for rank in 0..alphabet_len(ops, lines, line) {
-            let instr = instr_at(ops, lines, line, rank);
-            children.push(self.child(parent, line, instr, first + rank as usize, meter)?)?;
+        let lines = parent.program.lines();
+        let mut newest = Newest::none();
+        for rank in 0..alphabet_len(ops, lines, parent.line) {
+            let instr = instr_at(ops, lines, parent.line, rank);
+            self.add_child(nodes, parent, instr, &mut newest, meter)?;
         }
-        Ok(children)
+        Ok(newest)
+    }
+
+    /// Adds the child of a node for an instruction.
+    fn add_child(
+        &self,
+        nodes: &mut Nodes,
+        parent: &Parent,
+        instr: Instr,
+        newest: &mut Newest,
+        meter: &mut M::Meter,
+    ) -> Result<(), OutOfMemory>
+        requires parent { IsPartial (M.semantics self.now.machine.now).ops parent.now.program.value }
+        requires line { IsOpen parent.now.program.value parent.now.line }
+        requires instr { IsInstr (M.semantics self.now.machine.now).ops (length parent.now.program.value) parent.now.line instr }
+        requires few { length nodes.old.held.items < 2 ^ 32 }
+        requires numbers { AreNumbers nodes.old.held.items nodes.old.frontier.pairs }
+        ensures { OnOk result (AddsNewest (best_first (M.semantics self.now.machine.now) self.now.bounds.now)
+            (with_line parent.now.program.value parent.now.line instr)
+            nodes.old.held.items nodes.new.held.items nodes.old.frontier.pairs nodes.new.frontier.pairs newest.old newest.new) }
+    {
+        let mut program = parent.program.copy();
+        program.define(parent.line, instr);
+        self.add_node(nodes, program, newest, meter)
+    }
+
+    /// Judges a program by its runs, and adds its node, which is seen among the newest.
+    fn add_node(
+        &self,
+        nodes: &mut Nodes,
+        program: Partial,
+        newest: &mut Newest,
+        meter: &mut M::Meter,
+    ) -> Result<(), OutOfMemory>
+        requires partial { IsPartial (M.semantics self.now.machine.now).ops program }
+        requires few { length nodes.old.held.items < 2 ^ 32 }
+        requires numbers { AreNumbers nodes.old.held.items nodes.old.frontier.pairs }
+        ensures { OnOk result (AddsNewest (best_first (M.semantics self.now.machine.now) self.now.bounds.now) program
+            nodes.old.held.items nodes.new.held.items nodes.old.frontier.pairs nodes.new.frontier.pairs newest.old newest.new) }
+    {
+        let judgement = judge(self.alloc, self.machine, &program, self.bounds, meter)?;
+        newest.see(&program, judgement.verdict);
+        nodes.add(self.alloc, program, judgement)
+    }
+
+    /// A size that is closed, with its tree.
+    fn closed(
+        &self,
+        size: u8,
+        nodes: &Nodes,
+        stamp: u32,
+        ending: Option<Ending>,
+    ) -> Result<Searched, OutOfMemory>
+        requires some_lines { 0 < size }
+        requires few_lines { size ≤ MAX_LINES }
+        requires some { 0 < length nodes.now.held.items }
+        requires few { length nodes.now.held.items < 2 ^ 32 }
+        requires links { LinksOn (M.semantics self.now.machine.now).ops size nodes.now.held.items }
+        ensures { IfOk result (λ searched. (searched.stamp ≡ stamp) × (searched.ending ≡ ending)
+            × ((standing : Sequence Node) → AreInPreorder (M.semantics self.now.machine.now).ops size nodes.now.held.items (0 ∷ []) standing → searched.tree ≡ tree_of size standing)) }
+    {
+        let tree = tree_of(self.alloc, nodes.held.as_slice(), self.machine.ops(), size)?;
+        Ok(Searched {
+            tree,
+            stamp,
+            ending,
+        })
     }
 }

@@ -1,5 +1,5 @@
--- The verdict on a program, run after run.
-use Rattle.std.specs.Prelude.{ℕ, max}
+-- The judgement on a program: its verdict, run after run, and its key.
+use Rattle.std.specs.Prelude.{ℕ, max, List, []}
 use Rattle.program_model.specs.declared.standing.Stand.{Stand}
 use Rattle.program_model.specs.declared.standing.Stand.TheVariants as stands
 use Rattle.program_model.specs.declared.verdict.Verdict.{Verdict}
@@ -27,3 +27,10 @@ joined t (stands.Repeats from to) verdict = verdict
 joined t (stands.Waits line) verdict = with_waiting line verdict
 joined t stands.AtLimit verdict = with_limited t verdict
 joined t stands.QuotaUsed verdict = verdict
+
+-- the key of a program with a verdict: the one given where it waits, and none else
+abbrev pub key_if_waiting : Verdict → List ℕ → List ℕ
+key_if_waiting (verdicts.Refused t cause) key = []
+key_if_waiting (verdicts.AtLimit t) key = []
+key_if_waiting (verdicts.Waiting line) key = key
+key_if_waiting verdicts.Solved key = []

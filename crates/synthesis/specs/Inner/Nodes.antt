@@ -1,30 +1,119 @@
--- What the nodes of the code mean, and what its search of a size decides from them.
-use Rattle.std.specs.Prelude.{◌≡◌, ℕ, nat_lt, true, false, List, [], ◌∷◌, length, map, slice_get, All, Option, Some, None}
+-- How the nodes of a size are held by their numbers, while the definition has them in preorder.
+use Rattle.std.specs.Prelude.{◌≡◌, ℕ, ◌+◌, ◌*◌, ◌-◌, ◌<◌, ◌≤◌, true, List, [], ◌∷◌, ◌++◌, length, slice_get, Contains, Option, Some, None}
+use Rattle.std.specs.List.{range_with_len}
+use Rattle.program_model.specs.declared.alphabet.TheConstants.{MAX_LINES, MAX_OPS}
 use Rattle.program_model.specs.Alphabet.{alphabet}
-use Rattle.program_model.specs.declared.verdict.Verdict.{Verdict}
 use Rattle.program_model.specs.declared.verdict.Verdict.TheVariants as verdicts
-use Rattle.program_model.specs.Program.{IsPartial}
+use Rattle.program_model.specs.Program.{Program, IsPartial}
 use Rattle.program_model.specs.Verdict.{IsVerdict}
-use Rattle.synthesis.specs.declared.nodes.State.{State as Stage}
-use Rattle.synthesis.specs.declared.nodes.State.TheVariants as stages
-use Rattle.synthesis.specs.declared.nodes.Entry.{Entry}
-use Rattle.synthesis.specs.declared.turn.Ending.{Ending}
-use Rattle.synthesis.specs.declared.turn.Ending.TheVariants as endings
-use Rattle.synthesis.specs.declared.turn.Waiting.{Waiting}
-use Rattle.synthesis.specs.declared.turn.Turn.{Turn}
-use Rattle.synthesis.specs.declared.turn.Turn.TheVariants as turns
-use Rattle.synthesis.specs.Search.{Setting, State, judged, split, Node, waits_at, is_waiting, Close, found, run_spent, budget_spent, refuted, Closes, StaysOpen, AreChildren, IsRoot, Leads}
+use Rattle.synthesis.specs.declared.nodes.Held.{Held}
+use Rattle.synthesis.specs.declared.nodes.Held.TheVariants as holdings
+use Rattle.synthesis.specs.declared.newest.Newest.{Newest}
+use Rattle.synthesis.specs.declared.newest.Ending.{Ending}
+use Rattle.synthesis.specs.declared.newest.Ending.TheVariants as endings
+use Rattle.synthesis.specs.declared.searcher.Searched.{Searched}
+use Rattle.synthesis.specs.Answers.{tree_of}
+use Rattle.synthesis.specs.Search.{SearchesSize, Setting, State, judged, split, Node, is_waiting, Close, found, run_spent, budget_spent, refuted, first_solved, first_limited, IsRoot, StaysOpen, Leads}
 
-abbrev pub state_of : Stage → State
-state_of (stages.Judged verdict) = judged verdict
-state_of (stages.Split line stamp) = split line stamp
+-- the state that is held of a node
+abbrev pub state_of : Held → State
+state_of (holdings.Refused t cause) = judged (verdicts.Refused t cause)
+state_of (holdings.AtLimit t) = judged (verdicts.AtLimit t)
+state_of holdings.Solved = judged verdicts.Solved
+state_of (holdings.Waiting line program) = judged (verdicts.Waiting line)
+state_of (holdings.Split line stamp first) = split line stamp
 
--- in this search no node has a key, and none is passed over
-abbrev pub node_of : Entry → Node
-node_of entry = record { number = entry.number; program = entry.program; state = state_of entry.state; key = [] }
+-- of a node that waits its program is held
+abbrev pub HoldsProgram : Held → Program → Type 0
+HoldsProgram (holdings.Refused t cause) q = Unit {0}
+HoldsProgram (holdings.AtLimit t) q = Unit {0}
+HoldsProgram holdings.Solved q = Unit {0}
+HoldsProgram (holdings.Waiting line program) q = program.value ≡ q
+HoldsProgram (holdings.Split line stamp first) q = Unit {0}
 
-abbrev pub nodes_of : List Entry → List Node
-nodes_of entries = map node_of entries
+-- this is held of a node
+pub record IsHeldOf (node : Node) (held : Held) : Type 0 where
+  pub state : node.state ≡ state_of held
+  pub program : HoldsProgram held node.program
+
+module _ (ops size : ℕ) where
+  -- the numbers of a node's children, which stand in a row
+  abbrev pub children_of : Held → List ℕ
+  children_of (holdings.Refused t cause) = []
+  children_of (holdings.AtLimit t) = []
+  children_of holdings.Solved = []
+  children_of (holdings.Waiting line program) = []
+  children_of (holdings.Split line stamp first) = range_with_len first (length (alphabet ops size line))
+
+  -- the nodes are those of some numbers, one after another, each followed by its children
+  abbrev pub AreInPreorder : List Held → List ℕ → List Node → Type 0
+  AreInPreorder holds [] [] = Unit {0}
+  AreInPreorder holds (number ∷ numbers) (node ∷ nodes) = (node.number ≡ number) × ((held : Held) × (slice_get holds number ≡ Some held) × IsHeldOf node held × AreInPreorder holds (children_of held ++ numbers) nodes)
+  AreInPreorder holds _ _ = ⊥
+
+  -- a split node was split at one of its lines, and its children have greater numbers, and are there
+  abbrev pub LinksOn : List Held → Type 0
+  LinksOn holds = (number line stamp first : ℕ) → slice_get holds number ≡ Some (holdings.Split line stamp first) → (line < size) × (number < first) × (first + length (alphabet ops size line) ≤ length holds)
+
+-- a node's key and number
+abbrev pub pair_of : Node → List ℕ × ℕ
+pair_of node = (node.key, node.number)
+
+-- the pair is that of a node that waits
+pub record IsWaitingPair (nodes : List Node) (pair : List ℕ × ℕ) : Type 0 where
+  pub node : Node
+  pub here : Contains nodes node
+  pub waits : is_waiting node ≡ true
+  pub is : pair ≡ pair_of node
+
+-- the pairs are those of the nodes that wait
+pub record AreWaitingPairs (nodes : List Node) (pairs : List (List ℕ × ℕ)) : Type 0 where
+  pub told : (pair : List ℕ × ℕ) → Contains pairs pair → IsWaitingPair nodes pair
+  pub each : (node : Node) → Contains nodes node → is_waiting node ≡ true → Contains pairs (pair_of node)
+
+-- splits from the root of a size have led to these nodes
+pub record HasCome {C : Type 0} (s : Setting C) (budget size from stamp : ℕ) (nodes : List Node) : Type 0 where
+  pub root : Node
+  pub is_root : IsRoot s size root
+  pub leads : Leads s budget from (root ∷ []) stamp nodes
+
+-- the greatest number of instructions of a line's alphabet: all operations, and four jumps to each line but itself and the next
+abbrev pub MOST_CHILDREN : ℕ
+MOST_CHILDREN = MAX_OPS + 4 * (MAX_LINES - 2)
+
+-- these nodes have come, and are held by their numbers, with the pairs of those that wait
+pub record AreHeld {C : Type 0} (s : Setting C) (budget size from stamp : ℕ) (holds : List Held) (pairs : List (List ℕ × ℕ)) (nodes : List Node) : Type 0 where
+  pub some : 0 < size
+  pub come : HasCome s budget size from stamp nodes
+  pub preorder : AreInPreorder s.machine.ops size holds (0 ∷ []) nodes
+  pub count : length holds ≡ length nodes
+  pub links : LinksOn s.machine.ops size holds
+  pub few : length holds + from * MOST_CHILDREN ≤ 1 + stamp * MOST_CHILDREN
+  pub waiting : AreWaitingPairs nodes pairs
+
+-- the newest nodes tell the first of all that is solved, and the first at its limit
+pub record TellsNewest (nodes : List Node) (newest : Newest) : Type 0 where
+  pub solved : newest.solved ≡ first_solved nodes
+  pub limited : newest.limited ≡ first_limited nodes
+
+-- some nodes have come and are held, and the newest tell so much
+pub record HasGrown {C : Type 0} (s : Setting C) (budget size from stamp : ℕ) (holds : List Held) (pairs : List (List ℕ × ℕ)) (newest : Newest) : Type 0 where
+  pub nodes : List Node
+  pub are_held : AreHeld s budget size from stamp holds pairs nodes
+  pub tells : TellsNewest nodes newest
+
+-- some nodes have come and are held, one of them waits, and the size is not closed
+pub record CanGrow {C : Type 0} (s : Setting C) (budget size from stamp : ℕ) (holds : List Held) (pairs : List (List ℕ × ℕ)) : Type 0 where
+  pub nodes : List Node
+  pub are_held : AreHeld s budget size from stamp holds pairs nodes
+  pub stays : StaysOpen budget stamp nodes
+
+-- some nodes end the search so, if they do
+abbrev pub IsEndingOf : Newest → Option Ending → Type 0
+IsEndingOf newest None = (newest.solved ≡ None) × (newest.limited ≡ None)
+IsEndingOf newest (Some (endings.Found program)) = newest.solved ≡ Some program
+IsEndingOf newest (Some (endings.RunSpent t)) = (newest.solved ≡ None) × (newest.limited ≡ Some t)
+IsEndingOf newest (Some endings.BudgetSpent) = ⊥
 
 -- how a size was closed; where nothing ended it, it is refuted
 abbrev pub close_of : Option Ending → Close
@@ -33,10 +122,11 @@ close_of (Some (endings.Found program)) = found program
 close_of (Some (endings.RunSpent t)) = run_spent t
 close_of (Some endings.BudgetSpent) = budget_spent
 
--- the node's program is a partial program, and where the node is judged, that is the verdict on it
-pub record IsSound {C : Type 0} (s : Setting C) (node : Node) : Type 0 where
-  pub is_partial : IsPartial s.machine.ops node.program
-  pub judging : (given : Verdict) → node.state ≡ judged given → IsVerdict s.machine node.program s.limit given
+-- a size was searched up to its close, and this is its tree
+pub record IsSearched {C : Type 0} (s : Setting C) (budget size from : ℕ) (searched : Searched) : Type 0 where
+  pub nodes : List Node
+  pub searches : SearchesSize s budget size from searched.stamp nodes (close_of searched.ending)
+  pub tree : searched.tree ≡ tree_of size nodes
 
 -- where a program is found, it is a partial program, and the verdict on it is solved
 abbrev pub IsEndingOn : {C : Type 0} → Setting C → Ending → Type 0
@@ -44,35 +134,7 @@ IsEndingOn s (endings.Found program) = IsPartial s.machine.ops program × IsVerd
 IsEndingOn s (endings.RunSpent t) = Unit {0}
 IsEndingOn s endings.BudgetSpent = Unit {0}
 
-abbrev pub AreSound : {C : Type 0} → Setting C → List Entry → Type 0
-AreSound s entries = All (λ (entry : Entry). IsSound s (node_of entry)) entries
-
--- the entry at a place waits at a line, and no waiting entry among some has a lesser number
-pub record ComesFirst (entries among : List Entry) (w : Waiting) : Type 0 where
-  pub entry : Entry
-  pub here : slice_get entries w.place ≡ Some entry
-  pub numbered : entry.number ≡ w.number
-  pub waits : waits_at (state_of entry.state) ≡ Some w.line
-  pub least : All (λ (other : Entry). is_waiting (node_of other) ≡ true → nat_lt other.number w.number ≡ false) among
-
--- the first waiting entry among some, if one waits
-abbrev pub IsFirstWaiting : List Entry → List Entry → Option Waiting → Type 0
-IsFirstWaiting entries among None = All (λ (other : Entry). is_waiting (node_of other) ≡ false) among
-IsFirstWaiting entries among (Some w) = ComesFirst entries among w
-
--- a node split at a line, and its children behind it
-pub record AreFamily {C : Type 0} (s : Setting C) (line stamp first : ℕ) (parent : Node) (family : List Node) : Type 0 where
-  pub made : List Node
-  pub children : AreChildren s parent.program line first (alphabet s.machine.ops (length parent.program) line) made
-  pub all : family ≡ record parent { state = split line stamp } ∷ made
-
--- what is done next with a size: its first waiting node is split, or it is closed
-abbrev pub IsTurn : ℕ → ℕ → List Entry → Turn → Type 0
-IsTurn budget stamp entries (turns.Split w) = StaysOpen budget stamp (nodes_of entries) × ComesFirst entries entries w
-IsTurn budget stamp entries (turns.Closed ending) = Closes budget stamp (nodes_of entries) (close_of ending)
-
--- splits from the root of a size have led to these nodes
-pub record HasCome {C : Type 0} (s : Setting C) (budget size from stamp : ℕ) (nodes : List Node) : Type 0 where
-  pub root : Node
-  pub is_root : IsRoot s size root
-  pub leads : Leads s budget from (root ∷ []) stamp nodes
+-- where a size ends the search, this is so
+abbrev pub IsSoundEnd : {C : Type 0} → Setting C → Option Ending → Type 0
+IsSoundEnd s None = Unit {0}
+IsSoundEnd s (Some ending) = IsEndingOn s ending
