@@ -4,6 +4,7 @@ use Rattle.std.specs.Prelude.{IfOk, IfErr}
 use Rattle.bfgp_outside.specs.Causes.{RoseIf}
 use Rattle.bfgp_outside.specs.Shelf.{Files, Knowing}
 use Rattle.command_words.specs.declared.job.Job.{Job}
+use Rattle.command_words.specs.declared.job.Job.TheVariants.{Synth, Check, Run}
 use Rattle.command_words.specs.Words.{JobOf}
 use Rattle.command_words.proofs.OneJob.{JobOf-unique}
 use Rattle.input_reading.specs.Asked.{AsksInTurn}
@@ -17,8 +18,8 @@ use Rattle.bfgp_jobs.specs.declared.replying.NoReply.{NoReply}
 use Rattle.bfgp_jobs.specs.declared.status.Status.TheVariants.{Input}
 use Rattle.bfgp_jobs.specs.Reply.{Reply}
 use Rattle.bfgp_jobs.specs.Due.{Due, answer, fault, usage, usage_reply, job_due}
-use Rattle.bfgp_jobs.specs.Answers.{AsksForNamed, IsAnswerStatus, files_of}
-use Rattle.bfgp_jobs.specs.Inner.Replying.{told, lacks_file, IsReplyStatus, RepliesUsage}
+use Rattle.bfgp_jobs.specs.Answers.{AreSearch, AsksForNamed, IsAnswerStatus, IsSpent, files_of}
+use Rattle.bfgp_jobs.specs.Inner.Replying.{told, lacks_file, IsSearch, IsReplyStatus, RepliesUsage}
 use Rattle.bfgp_jobs.proofs.Statuses.{verdict_replies, verdict_no_input, verdict_no_usage}
 
 -- what a job's code gives is due
@@ -71,6 +72,25 @@ job_status outcome result same verdict = subst (λ (r : Result Reply NoReply). I
     by_outcome (Err (Refused line)) verdict = tt
     by_outcome (Err ReadFault) verdict = tt
     by_outcome (Err OutOfMemory) verdict = tt
+
+search_of : (words : List (List ℕ)) (job : Job) → JobOf words job → IsSearch job → AreSearch words
+search_of words (Synth job) is search = (job, is)
+search_of words (Check job) is search = absurd search
+search_of words (Run job) is search = absurd search
+
+-- only a search spends
+pub job_spent : (words : List (List ℕ)) (job : Job) (outcome : Result Reply Halt) (result : Result Reply NoReply) → JobOf words job → result ≡ told outcome → IfOk outcome (λ reply. IsSpent reply.status → IsSearch job) → IfOk result (λ reply. IsSpent reply.status → AreSearch words)
+job_spent words job outcome result is same spent = subst (λ (r : Result Reply NoReply). IfOk r (λ reply. IsSpent reply.status → AreSearch words)) (sym same) (by_outcome outcome spent)
+  where
+    by_outcome : (o : Result Reply Halt) → IfOk o (λ reply. IsSpent reply.status → IsSearch job) → IfOk (told o) (λ reply. IsSpent reply.status → AreSearch words)
+    by_outcome (Ok reply) spent = λ is_spent. search_of words job is (spent is_spent)
+    by_outcome (Err (Refused line)) spent = λ is_spent. absurd is_spent
+    by_outcome (Err ReadFault) spent = tt
+    by_outcome (Err OutOfMemory) spent = tt
+
+-- the usage text is not what a search spends
+pub usage_unspent : (words : List (List ℕ)) (reply : Reply) → reply ≡ usage_reply → IsSpent reply.status → AreSearch words
+usage_unspent words reply is spent = absurd (subst (λ (r : Reply). IsSpent r.status) is spent)
 
 pub job_reads : (reads reads_now : ℕ) (outcome : Result Reply Halt) (result : Result Reply NoReply) → result ≡ told outcome → RoseIf (is_read_fault outcome) reads reads_now → RoseIf (lacks_file result) reads reads_now
 job_reads reads reads_now outcome result same rose = subst (λ (r : Result Reply NoReply). RoseIf (lacks_file r) reads reads_now) (sym same) (by_outcome outcome rose)

@@ -14,7 +14,7 @@ use Rattle.bfgp_jobs.specs.declared.status.Status.{Status}
 use Rattle.input_reading.specs.Steps.{Gives}
 use Rattle.input_reading.specs.Inputs.{program_due}
 use Rattle.bfgp_jobs.specs.Due.{report_due, report_status}
-use Rattle.bfgp_jobs.specs.Answers.{IsAnswerStatus}
+use Rattle.bfgp_jobs.specs.Answers.{IsAnswerStatus, IsSpent}
 
 -- the program by slices of the name and of the bytes
 pub program_at : (machine : MachineParts) (name slice_of_name bytes slice : List ℕ) (r : Result Program Halt) → slice_of_name ≡ name → slice ≡ bytes → Gives (program_due machine slice_of_name slice) r → Gives (program_due machine name bytes) r
@@ -37,3 +37,10 @@ report_verdict false = tt
 
 pub reported_verdict : (all_solved : Bool) (status : Status) (text : List ℕ) (reply : Reply) → status ≡ report_status all_solved → reply ≡ record { status = status; text = text } → IsAnswerStatus reply.status
 reported_verdict all_solved status text reply status_is is = subst IsAnswerStatus (sym (ap (λ (r : Reply). r.status) is ∙ status_is)) (report_verdict all_solved)
+
+pub reported_unspent : (all_solved : Bool) (status : Status) (text : List ℕ) (reply : Reply) → status ≡ report_status all_solved → reply ≡ record { status = status; text = text } → IsSpent reply.status → ⊥
+reported_unspent all_solved status text reply status_is is spent = report_unspent all_solved (subst IsSpent (ap (λ (r : Reply). r.status) is ∙ status_is) spent)
+  where
+    report_unspent : (b : Bool) → IsSpent (report_status b) → ⊥
+    report_unspent true spent = spent
+    report_unspent false spent = spent

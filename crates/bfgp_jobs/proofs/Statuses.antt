@@ -1,10 +1,11 @@
 -- Statuses, case by case.
-use Rattle.std.proofs.Common.{◌≡◌, ◌≢◌, ℕ, ◌≤◌, Bool, true, false, refl, subst, arith}
+use Rattle.std.proofs.Common.{◌≡◌, ◌≢◌, ℕ, ◌≤◌, List, Option, Bool, true, false, refl, subst, arith}
 use Rattle.bfgp_outside.specs.Causes.{Rose, RoseIf}
 use Rattle.bfgp_jobs.specs.declared.status.Status.{Status}
 use Rattle.bfgp_jobs.specs.declared.status.Status.TheVariants.{Done, No, Usage, Input, SpentExpansions, SpentRun, ReadFault, WriteFault, OutOfMemory}
-use Rattle.bfgp_jobs.specs.Answers.{IsAnswerStatus}
-use Rattle.bfgp_jobs.specs.Inner.Replying.{IsReplyStatus, is_write_fault}
+use Rattle.bfgp_jobs.specs.Reply.{Reply}
+use Rattle.bfgp_jobs.specs.Answers.{AreSearch, IsAnswerStatus, IsSpent}
+use Rattle.bfgp_jobs.specs.Inner.Replying.{IsReplyStatus, Writes, is_write_fault}
 
 -- the status of an answer is one of a reply
 pub verdict_replies : (status : Status) → IsAnswerStatus status → IsReplyStatus status
@@ -85,3 +86,9 @@ writes_rose status faults faults_now rose is = let told : RoseIf true faults fau
 pub never_falls : (told : Bool) (count count_now : ℕ) → RoseIf told count count_now → count ≤ count_now
 never_falls true count count_now rose = rose.0
 never_falls false count count_now kept = omega (arith, kept)
+
+-- what is written has the status of its reply, where that is one of a search that spent something
+pub spent_written : (words : List (List ℕ)) (reply : Reply) (status : Status) (old new : Option (List ℕ)) → Writes reply status old new → (IsSpent reply.status → AreSearch words) → IsSpent status → AreSearch words
+spent_written words reply status old new writes only spent =
+    let same = writes.whole (λ fault. subst IsSpent fault spent) in
+    only (subst IsSpent same.0 spent)

@@ -4,6 +4,7 @@ use Rattle.bfgp_outside.specs.Causes.{Rose}
 use Rattle.bfgp_outside.specs.Sink.{Keeps, Appends, AppendsPrefix}
 use Rattle.command_words.specs.declared.job.Job.{Job}
 use Rattle.command_words.specs.declared.job.Job.TheVariants.{Synth, Check, Run}
+use Rattle.command_words.specs.declared.job.SynthJob.{SynthJob}
 use Rattle.command_words.specs.Words.{JobOf, names_of, usage_text}
 use Rattle.input_reading.specs.Asked.{AsksInTurn}
 use Rattle.input_reading.specs.declared.fault.Fault.{Fault}
@@ -44,13 +45,23 @@ IsSilent ReadFault old new = Keeps old new
 IsSilent OutOfMemory old new = Keeps old new
 IsSilent _ old new = Unit {0}
 
--- the status of an answer: whether a program was found, a document accepted, or all instances solved; or which budget or limit was spent
+-- the status of an answer: whether a program was found, a document accepted, or all instances solved; or what the search spent
 abbrev pub IsAnswerStatus : Status → Type 0
 IsAnswerStatus Done = Unit {0}
 IsAnswerStatus No = Unit {0}
 IsAnswerStatus SpentExpansions = Unit {0}
 IsAnswerStatus SpentRun = Unit {0}
 IsAnswerStatus _ = ⊥
+
+-- the status of a search that spent its budget of splits, or the limit of steps of a run
+abbrev pub IsSpent : Status → Type 0
+IsSpent SpentExpansions = Unit {0}
+IsSpent SpentRun = Unit {0}
+IsSpent _ = ⊥
+
+-- the words are those of a search
+abbrev pub AreSearch : List (List ℕ) → Type 0
+AreSearch words = (job : SynthJob) × JobOf words (Synth job)
 
 -- what happens where the words are no job, whatever the shelf tells: usage is answered, but for a write fault or want of memory
 abbrev pub AnswersUsage : Status → Option (List ℕ) → Option (List ℕ) → Type 0

@@ -84,7 +84,7 @@ pub record GivesLeast (task : TaskParts) (instances : List InstanceParts) (point
   pub ends : AreEndsInGoal task instances pointers program answer.ends
 
 -- what an accepted answer shows, by its outcome: its program is a least solution; or there is none of at most as many lines as were
--- asked for; or, where a budget was spent, none of fewer lines than the size at which it was
+-- asked for; or, where the budget or a run was spent, none of fewer lines than the size at which it was
 abbrev pub Shows : TaskParts → List InstanceParts → (pointers lines : ℕ) → Answer → Outcome → Type 0
 Shows task instances pointers lines answer (outcomes.Program size) = GivesLeast task instances pointers lines answer
 Shows task instances pointers lines answer outcomes.Nothing = NoneSolvesEach task instances pointers lines

@@ -8,7 +8,7 @@ ghost use Rattle.input_reading.specs.Asked.{AsksInTurn};
 ghost use Rattle.input_reading.specs.Steps.{Gives};
 ghost use Rattle.input_reading.specs.Causes.{HaltCause, is_read_fault};
 ghost use Rattle.bfgp_jobs.specs.Due.{check_due, IsAcceptedDocument, VerdictDue};
-ghost use Rattle.bfgp_jobs.specs.Answers.{IsAnswerStatus};
+ghost use Rattle.bfgp_jobs.specs.Answers.{IsAnswerStatus, IsSpent};
 
 use crate::reply::Reply;
 use crate::status::Status;
@@ -36,6 +36,7 @@ pub(crate) fn check<S: Shelf>(alloc: Global, shelf: &mut S, job: &CheckJob) -> R
     requires { IsCheckJob job.now }
     ensures due { Knowing (S.files shelf.old) (λ files. Gives (check_due files job.now) result) }
     ensures verdict { IfOk result (λ reply. IsAnswerStatus reply.status) }
+    ensures unspent { IfOk result (λ reply. IsSpent reply.status → ⊥) }
     ensures cause { IfErr result (HaltCause (S.absences shelf.old) (S.absences shelf.new)) }
     ensures reads { RoseIf (is_read_fault result) (S.faults shelf.old) (S.faults shelf.new) }
     ensures goes_on { GoesOn S.files S.faults S.absences shelf.old shelf.new }
@@ -57,6 +58,7 @@ fn verdict(
     requires { AreNames (operation_texts machine.now.task machine.now.pointers) }
     ensures due { IfOk result (λ reply. VerdictDue machine.now lines bytes.now (Ok reply)) }
     ensures verdict { IfOk result (λ reply. IsAnswerStatus reply.status) }
+    ensures unspent { IfOk result (λ reply. IsSpent reply.status → ⊥) }
 {
     if is_accepted_document(alloc, machine, lines, bytes)? {
         Ok(Reply::of_text(Status::Done, Text::of(alloc, ACCEPTED)?))

@@ -6,8 +6,8 @@ ghost use Rattle.input_reading.specs.Asked.{AsksInTurn};
 ghost use Rattle.input_reading.specs.Causes.{TellsFault, HaltCause, is_read_fault};
 ghost use Rattle.input_reading.specs.Steps.{Gives};
 ghost use Rattle.bfgp_jobs.specs.Due.{Due, job_due, usage_reply};
-ghost use Rattle.bfgp_jobs.specs.Answers.{AsksForNamed, IsAnswerStatus, files_of};
-ghost use Rattle.bfgp_jobs.specs.Inner.Replying.{told, lacks_file, IsReplyStatus, RepliesUsage};
+ghost use Rattle.bfgp_jobs.specs.Answers.{AreSearch, AsksForNamed, IsAnswerStatus, IsSpent, files_of};
+ghost use Rattle.bfgp_jobs.specs.Inner.Replying.{told, lacks_file, IsSearch, IsReplyStatus, RepliesUsage};
 
 use crate::check::check;
 use crate::reply::Reply;
@@ -52,6 +52,7 @@ pub(crate) fn reply_to_words<S: Shelf>(
     ensures input { IfOk result (λ reply. reply.status ≡ Status.Input →
         TellsFault (S.absences shelf.old) (S.absences shelf.new) reply.text) }
     ensures status { IfOk result (λ reply. IsReplyStatus reply.status) }
+    ensures spent { IfOk result (λ reply. IsSpent reply.status → AreSearch (map string_bytes words.now)) }
     ensures reads { RoseIf (lacks_file result) (S.faults shelf.old) (S.faults shelf.new) }
     ensures goes_on { GoesOn S.files S.faults S.absences shelf.old shelf.new }
     ensures asks { AsksForNamed (map string_bytes words.now) (S.asked shelf.old) (S.asked shelf.new) }
@@ -79,6 +80,7 @@ fn job_outcome<S: Shelf>(alloc: Global, shelf: &mut S, job: &Job) -> Result<Repl
     requires { IsJob job.now }
     ensures due { Knowing (S.files shelf.old) (λ files. Gives (job_due files job.now) result) }
     ensures verdict { IfOk result (λ reply. IsAnswerStatus reply.status) }
+    ensures spent { IfOk result (λ reply. IsSpent reply.status → IsSearch job.now) }
     ensures cause { IfErr result (HaltCause (S.absences shelf.old) (S.absences shelf.new)) }
     ensures reads { RoseIf (is_read_fault result) (S.faults shelf.old) (S.faults shelf.new) }
     ensures goes_on { GoesOn S.files S.faults S.absences shelf.old shelf.new }

@@ -13,7 +13,7 @@ ghost use Rattle.input_reading.specs.Steps.{Gives};
 ghost use Rattle.input_reading.specs.Inputs.{program_due};
 ghost use Rattle.bfgp_jobs.specs.Due.{run_due, report_due, report_status};
 ghost use Rattle.input_reading.specs.Causes.{HaltCause, is_read_fault};
-ghost use Rattle.bfgp_jobs.specs.Answers.{IsAnswerStatus};
+ghost use Rattle.bfgp_jobs.specs.Answers.{IsAnswerStatus, IsSpent};
 
 use crate::reply::Reply;
 use crate::status::Status;
@@ -31,6 +31,7 @@ pub(crate) fn run<S: Shelf>(alloc: Global, shelf: &mut S, job: &RunJob) -> Resul
     requires { IsRunJob job.now }
     ensures due { Knowing (S.files shelf.old) (λ files. Gives (run_due files job.now) result) }
     ensures verdict { IfOk result (λ reply. IsAnswerStatus reply.status) }
+    ensures unspent { IfOk result (λ reply. IsSpent reply.status → ⊥) }
     ensures cause { IfErr result (HaltCause (S.absences shelf.old) (S.absences shelf.new)) }
     ensures reads { RoseIf (is_read_fault result) (S.faults shelf.old) (S.faults shelf.new) }
     ensures goes_on { GoesOn S.files S.faults S.absences shelf.old shelf.new }
@@ -55,6 +56,7 @@ fn outcome(
     requires program { IsProgram (meaning_of machine.now).ops program.now }
     ensures due { IfOk result (λ reply. report_due machine.now limit program.now (Ok reply)) }
     ensures verdict { IfOk result (λ reply. IsAnswerStatus reply.status) }
+    ensures unspent { IfOk result (λ reply. IsSpent reply.status → ⊥) }
 {
     let report = report(alloc, machine, program, limit, &mut Meter::zero())?;
     Ok(Reply::of_text(status_of(report.all_solved), report.text))

@@ -16,9 +16,9 @@ pub enum Status {
     Usage = 2,
     /// A file is absent, too long or refused; one fault line was written.
     Input = 3,
-    /// The budget of splits was spent.
+    /// The search spent its budget of splits.
     SpentExpansions = 4,
-    /// A run reached its limit of steps.
+    /// The search ended at a run that reached its limit of steps.
     SpentRun = 5,
     /// A file could not be read; nothing was written.
     ReadFault = 6,

@@ -2,7 +2,7 @@ ghost use Rattle.std.specs.Prelude.{◌≡◌, ◌≢◌, ◌≤◌, map, string
 ghost use Rattle.bfgp_outside.specs.Causes.{Rose, RoseIf};
 ghost use Rattle.bfgp_outside.specs.Shelf.{Knowing, GoesOn};
 ghost use Rattle.bfgp_jobs.specs.Due.{Due};
-ghost use Rattle.bfgp_jobs.specs.Answers.{Answers, AsksForNamed, IsSilent, UsageIsExact, InputCause};
+ghost use Rattle.bfgp_jobs.specs.Answers.{Answers, AreSearch, AsksForNamed, IsSilent, IsSpent, UsageIsExact, InputCause};
 ghost use Rattle.bfgp_jobs.specs.Headline.{Headline};
 ghost use Rattle.bfgp_jobs.specs.Acceptance.{CheckAccepts};
 ghost use Rattle.bfgp_jobs.specs.Inner.Replying.{is_write_fault, IsReplyStatus, Writes};
@@ -23,8 +23,8 @@ pub fn bfgp<S: Shelf, K: Sink>(
 ) -> Status
     // `synth`: with status 0 the bytes that were written say one answer, whose program solves every instance that the words
     // pose, and none with fewer lines does; with status 1 they say that there is none, and no program of at most as many lines
-    // as were asked for does; with status 4 that the budget of splits was spent, and with status 5 that a run made as many steps
-    // as it may, and no program with fewer lines than the size at which that was solves; no other command ends with 4 or 5.
+    // as were asked for does; with status 4 they say at which size the budget of splits was spent, with status 5 at which size a
+    // run made as many steps as it may, and in both no program with fewer lines than that size does. No other command ends so.
     // `check`: with status 0 the given document is accepted, and what it says of its program, or that there is none, is so; with
     // status 1 it is not accepted. `run`: with status 0 the given program solves every instance within the limit of steps, and
     // with status 1 it does not solve some instance within it.
@@ -41,6 +41,7 @@ pub fn bfgp<S: Shelf, K: Sink>(
 
     // What stands over every shelf and sink.
     ensures usage { UsageIsExact (map string_bytes words.now) result (K.written out.old) (K.written out.new) }
+    ensures search_alone { IsSpent result → AreSearch (map string_bytes words.now) }
     ensures input { result ≡ Status.Input →
         InputCause (S.absences shelf.old) (S.absences shelf.new)
         (K.written out.old) (K.written out.new) }

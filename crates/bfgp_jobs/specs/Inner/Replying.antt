@@ -2,6 +2,7 @@
 use Rattle.std.specs.Prelude.{◌≡◌, ◌≢◌, ℕ, List, Bool, true, false, Option, Result, Ok, Err, IfOk}
 use Rattle.bfgp_outside.specs.Sink.{Appends, AppendsPrefix}
 use Rattle.command_words.specs.declared.job.Job.{Job}
+use Rattle.command_words.specs.declared.job.Job.TheVariants.{Synth, Check, Run}
 use Rattle.command_words.specs.Words.{JobOf}
 use Rattle.input_reading.specs.declared.halt.Halt.{Halt}
 use Rattle.input_reading.specs.declared.halt.Halt.TheVariants as halts
@@ -23,6 +24,12 @@ IsReplyStatus SpentRun = Unit {0}
 IsReplyStatus ReadFault = ⊥
 IsReplyStatus WriteFault = ⊥
 IsReplyStatus OutOfMemory = ⊥
+
+-- the job is a search
+abbrev pub IsSearch : Job → Type 0
+IsSearch (Synth job) = Unit {0}
+IsSearch (Check job) = ⊥
+IsSearch (Run job) = ⊥
 
 -- what a job comes to, as a reply: a fault ends it with the reply that tells it
 abbrev pub told : Result Reply Halt → Result Reply NoReply

@@ -1,6 +1,6 @@
 use Rattle.std.proofs.Common.{map, string_bytes}
 use Rattle.command_words.proofs.OneJob.{job_kept}
-use Rattle.bfgp_jobs.proofs.Outcomes.{job_known, usage_known, job_usage, job_input, job_status, job_reads, named_asked, none_asked}
+use Rattle.bfgp_jobs.proofs.Outcomes.{job_known, usage_known, job_usage, job_input, job_status, job_spent, usage_unspent, job_reads, named_asked, none_asked}
 use Rattle.bfgp_jobs.proofs.replying.reply_to_words.Goals as goal
 
 pub job_outcome-requires : goal.job_outcome-requires
@@ -36,3 +36,10 @@ returns-in-Ok-clause-asks g c = named_asked (map string_bytes c.args.words.now) 
 
 pub returns-in-Err-OutOfMemory-clause-asks : goal.returns-in-Err-OutOfMemory-clause-asks
 returns-in-Err-OutOfMemory-clause-asks g c = none_asked (map string_bytes c.args.words.now) (g.S.Shelf.asked c.args.shelf.now)
+
+pub returns-in-Ok-clause-spent : goal.returns-in-Ok-clause-spent
+returns-in-Ok-clause-spent g c =
+    job_spent (map string_bytes c.args.words.now) c.in-Ok.job c.job_outcome.result c.tell.result c.in-Ok.ensures c.tell.ensures c.job_outcome.ensures.spent
+
+pub returns-in_ok-usage-in-Err-Usage-clause-spent : goal.returns-in_ok-usage-in-Err-Usage-clause-spent
+returns-in_ok-usage-in-Err-Usage-clause-spent g c = usage_unspent (map string_bytes c.args.words.now) c.in_ok-usage-in-Err-Usage.field-0 c.in_ok-usage-in-Err-Usage.ensures

@@ -7,6 +7,7 @@ use Rattle.bfgp_jobs.specs.Answers.{Answers}
 use Rattle.bfgp_jobs.specs.Acceptance.{CheckAccepts}
 use Rattle.bfgp_jobs.proofs.Headlines.{headline}
 use Rattle.bfgp_jobs.proofs.Accepting.{check_accepts}
+use Rattle.bfgp_jobs.proofs.Statuses.{spent_written}
 use Rattle.bfgp_jobs.proofs.Written.{written_due}
 use Rattle.bfgp_jobs.proofs.top.bfgp.Goals as goal
 
@@ -36,3 +37,7 @@ returns-in-Ok-clause-due g c =
     knowing (g.S.Shelf.files c.args.shelf.now) (λ (files : Files). Due words files c.in-Ok.reply) (λ (files : Files). Answers (Due words files) c.write.result old new)
     (λ files due. written_due (Due words files) c.in-Ok.reply c.write.result old new due c.in-Ok.ensures.status c.write.ensures.writes)
     c.in-Ok.ensures.due
+
+pub returns-in-Ok-clause-search_alone : goal.returns-in-Ok-clause-search_alone
+returns-in-Ok-clause-search_alone g c = λ spent.
+    spent_written (map string_bytes c.args.words.now) c.in-Ok.reply c.write.result (g.K.Sink.written c.args.out.now) (g.K.Sink.written c.write.new.out) c.write.ensures.writes c.in-Ok.ensures.spent spent
