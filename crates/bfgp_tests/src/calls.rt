@@ -162,17 +162,22 @@ pub fn check_accepted<R: Abort>(
 fn words_of_check(alloc: Global, search: &str) -> Result<String, AllocError> {
     let mut words = String::from_str(alloc, "check")?;
     let mut inputs = String::new(alloc);
-    let mut option = "";
+    let mut is_value = false;
+    let mut is_kept = false;
     for word in search.split(' ').skip(1) {
         if word.starts_with("--") {
-            option = word;
-        } else if option.is_empty() {
+            is_value = true;
+            is_kept = word == "--pointers" || word == "--lines";
+            if is_kept {
+                write!(words, " {word}")?;
+            }
+        } else if !is_value {
             write!(inputs, " {word}")?;
         } else {
-            if option == "--pointers" || option == "--lines" {
-                write!(words, " {option} {word}")?;
+            is_value = false;
+            if is_kept {
+                write!(words, " {word}")?;
             }
-            option = "";
         }
     }
     write!(words, " --answer answer{inputs}")?;

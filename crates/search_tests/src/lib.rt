@@ -11,7 +11,11 @@ mod frontiers;
 #[cfg(test)]
 mod marks;
 #[cfg(test)]
+mod noticing;
+#[cfg(test)]
 mod orders;
+#[cfg(test)]
+mod pools;
 #[cfg(test)]
 mod programs;
 #[cfg(test)]

@@ -1,0 +1,2 @@
+-- What only the invariant cites.
+pub mod Entries
