@@ -1,0 +1,2 @@
+-- What only the invariant and private functions cite.
+pub mod Nodes
