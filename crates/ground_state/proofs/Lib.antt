@@ -7,3 +7,4 @@ pub mod MetGoals
 pub mod Typing
 pub mod Acting
 pub mod Sets
+pub mod Packing

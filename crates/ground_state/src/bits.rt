@@ -1,24 +1,28 @@
 ghost use Rattle.std.specs.Prelude.{◌≡◌, ◌↔◌, ◌<◌, IsTrue, false, true, Some, length, replicate, slice_get, slice_set, IfOk};
 ghost use Rattle.ground_state.specs.State.{missing};
 
+use crate::word::{is_set, missing_in_words, with_false, with_true};
 use flag_rules::OutOfMemory;
 use std::alloc::Global;
 use std::marker::Model;
 
-/// A row of truth values. Contracts see it as the list of them.
+/// A row of truth values, packed into words. Contracts see it as the list of them.
 #[derive(Debug, Drop)]
 pub(crate) struct Bits {
-    values: Vec<bool>,
+    count: u32,
+    /// Just enough words. Behind the last value each place is false, so that whole words can be compared and counted.
+    words: Vec<u64>,
 }
 
 impl Model for Bits {
-    ghost use Rattle.std.specs.Prelude.{List, Bool, ◌^◌, ◌<◌, length};
+    ghost use Rattle.std.specs.Prelude.{List, Bool};
+    ghost use Rattle.ground_state.specs.Inner.Packing.{values_of, IsPacked};
 
     ghost Value = { List Bool };
 
-    ghost view = { λ bits. bits.values.items };
+    ghost view = { λ bits. values_of bits.count bits.words.items };
 
-    ghost invariant = { λ bits. length bits.values.items < 2 ^ 32 };
+    ghost invariant = { λ bits. IsPacked bits.count bits.words.items };
 }
 
 impl Bits {
@@ -26,9 +30,9 @@ impl Bits {
     pub(crate) fn none(alloc: Global, count: u32) -> Result<Bits, OutOfMemory>
         ensures { IfOk result (λ bits. bits ≡ replicate count false) }
     {
-        Ok(Bits {
-            values: vec![in alloc; false; count as usize]?,
-        })
+        let enough = count.div_ceil(u64::BITS);
+        let words = vec![in alloc; 0; enough as usize]?;
+        Ok(Bits { count, words })
     }
 
     /// A copy.
@@ -36,7 +40,8 @@ impl Bits {
         ensures { IfOk result (λ bits. bits ≡ self.now) }
     {
         Ok(Bits {
-            values: Vec::from_slice(alloc, self.values.as_slice())?,
+            count: self.count,
+            words: Vec::from_slice(alloc, self.words.as_slice())?,
         })
     }
 
@@ -45,7 +50,8 @@ impl Bits {
         requires { place < length self.now }
         ensures { slice_get self.now place ≡ Some result }
     {
-        self.values[place as usize]
+        let at = (place / u64::BITS) as usize;
+        is_set(self.words[at], place % u64::BITS)
     }
 
     /// Makes the value at a place true.
@@ -53,7 +59,8 @@ impl Bits {
         requires { place < length self.old }
         ensures { self.new ≡ slice_set self.old place true }
     {
-        self.values[place as usize] = true;
+        let at = (place / u64::BITS) as usize;
+        self.words[at] = with_true(self.words[at], place % u64::BITS);
     }
 
     /// Makes the value at a place false.
@@ -61,7 +68,8 @@ impl Bits {
         requires { place < length self.old }
         ensures { self.new ≡ slice_set self.old place false }
     {
-        self.values[place as usize] = false;
+        let at = (place / u64::BITS) as usize;
+        self.words[at] = with_false(self.words[at], place % u64::BITS);
     }
 
     /// Takes over the values of another row of the same length.
@@ -69,21 +77,21 @@ impl Bits {
         requires { length self.old ≡ length other.now }
         ensures { self.new ≡ other.now }
     {
-        self.values.copy_from_slice(other.values.as_slice());
+        self.words.copy_from_slice(other.words.as_slice());
     }
 
     /// Whether the two rows have the same values.
     pub(crate) fn equals(&self, other: &Bits) -> bool
         ensures { IsTrue result ↔ (self.now ≡ other.now) }
     {
-        self.values.as_slice() == other.values.as_slice()
+        self.count == other.count && self.words.as_slice() == other.words.as_slice()
     }
 
-    /// At how many places the value is true here and false there.
+    /// At how many places the value is true here and false in another row of the same length.
     pub(crate) fn missing_in(&self, other: &Bits) -> u32
+        requires { length self.now ≡ length other.now }
         ensures { result ≡ missing self.now other.now }
     {
-        let pairs = self.values.iter().zip(other.values.iter());
-        pairs.filter(|(here, there)| **here && !**there).count() as u32
+        missing_in_words(self.words.as_slice(), other.words.as_slice())
     }
 }

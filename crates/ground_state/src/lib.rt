@@ -14,6 +14,7 @@ mod refusal;
 mod table;
 mod task;
 mod types;
+mod word;
 
 pub use action::apply;
 pub use atoms::Atoms;
