@@ -2,8 +2,8 @@ ghost use Rattle.std.specs.Prelude.{◌≡◌, ◌≢◌, ◌≤◌, All, IfNone
 ghost use Rattle.evaluations.specs.Evaluations.{value};
 ghost use Rattle.evaluations.specs.Orders.{name_of};
 
-use crate::{MAX_STEPS, Standing, values};
-use program_model::{MAX_INSTANCES, Partial};
+use crate::{Standing, values};
+use program_model::{MAX_INSTANCES, MAX_RUN, Partial};
 
 /// What a partial program that waits is looked at by. Each is a number, and a smaller one is better.
 #[derive(Clone, Copy, Debug, Default, PartialEq, Eq, Drop)]
@@ -43,7 +43,7 @@ impl Evaluation {
     /// Its value at a partial program, where the runs of it stand so. It takes no memory.
     pub fn value(self, partial: &Partial, standings: &[Standing]) -> u64
         requires few { length standings.now ≤ MAX_INSTANCES }
-        requires short { All (λ standing. standing.steps ≤ MAX_STEPS) standings.now }
+        requires short { All (λ standing. standing.steps ≤ MAX_RUN) standings.now }
         ensures { result ≡ value self partial.now standings.now }
     {
         match self {

@@ -5,12 +5,10 @@ ghost use Rattle.evaluations.specs.declared.evaluation.Evaluation.TheVariants.{J
 ghost use Rattle.evaluations.specs.declared.entries.TheConstants.{MAX_ENTRIES};
 ghost use Rattle.evaluations.specs.declared.refusal.OrderRefusal.{OrderRefusal};
 ghost use Rattle.evaluations.specs.declared.refusal.OrderRefusal.TheVariants.{Name, Repeated};
-ghost use Rattle.evaluations.specs.declared.standing.TheConstants.{MAX_STEPS};
 
-/// A law: the greatest number of entries of a key, and of steps of a run, as numbers.
+/// A law: the greatest number of entries of a key, as a number.
 pub fn limits()
-    ensures entries { MAX_ENTRIES ≡ 6 }
-    ensures steps { MAX_STEPS ≡ 10000000 }
+    ensures { MAX_ENTRIES ≡ 6 }
 {}
 
 /// A law: the text of the order of all six evaluations, which shows their names.

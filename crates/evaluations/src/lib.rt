@@ -24,4 +24,4 @@ pub use node_key::key;
 pub use order::Order;
 pub use ranking::Ranking;
 pub use refusal::OrderRefusal;
-pub use standing::{MAX_STEPS, Standing};
+pub use standing::Standing;

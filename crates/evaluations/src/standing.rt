@@ -3,9 +3,6 @@ ghost use Rattle.evaluations.specs.Evaluations.{standing_of};
 
 use program_model::{RunOutcome, Stand};
 
-/// The greatest number of steps of a run that a key is made of.
-pub const MAX_STEPS: u64 = 10_000_000;
-
 /// Where a run of a partial program stands, as far as evaluations look at it.
 #[derive(Clone, Copy, Debug, Default, PartialEq, Eq, Drop)]
 pub struct Standing {

@@ -2,8 +2,8 @@ ghost use Rattle.std.specs.Prelude.{◌≡◌, ◌-◌, ◌≤◌, All, count_by
 ghost use Rattle.evaluations.specs.Evaluations.{different, greatest_waiting, instrs_of, is_jump};
 ghost use Rattle.evaluations.specs.Inner.Lines.{stands_again};
 
-use crate::{MAX_STEPS, Standing};
-use program_model::{Instr, MAX_INSTANCES, Partial};
+use crate::Standing;
+use program_model::{Instr, MAX_INSTANCES, MAX_RUN, Partial};
 
 /// How many jumps stand on the lines.
 pub(crate) fn jumps(partial: &Partial) -> u64
@@ -69,7 +69,7 @@ pub(crate) fn missing_atoms(standings: &[Standing]) -> u64
 /// How many steps were made, over all runs.
 pub(crate) fn steps(standings: &[Standing]) -> u64
     requires few { length standings.now ≤ MAX_INSTANCES }
-    requires short { All (λ standing. standing.steps ≤ MAX_STEPS) standings.now }
+    requires short { All (λ standing. standing.steps ≤ MAX_RUN) standings.now }
     ensures { result ≡ sum_by (λ standing. standing.steps) standings.now }
 {
     standings.iter().map(|standing| standing.steps).sum()

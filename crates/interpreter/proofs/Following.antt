@@ -1,160 +1,36 @@
 -- Runs on their way: what comes next, and that a step leads on.
-use Rattle.std.proofs.Common.{◌≡◌, ◌≢◌, ℕ, zero, suc, ◌+◌, ◌-◌, ◌*◌, ◌^◌, ◌<◌, ◌≤◌, Bool, true, false, length, Some, None, refl, sym, ◌∙◌, ap, subst, inl, inr, arith, pow-suc, le-add_right}
-use Rattle.std.specs.Prelude.{◌==◌, if◌then◌else◌, option_and_then, IfSome}
-use Rattle.std.proofs.Math.Pow.{pow_mono}
-use Rattle.std.proofs.lemmas.Option.{none-some, same_Some}
-use Rattle.std.proofs.lemmas.Bool.{cases_lt, cases_order, cases_cond, eqb-true, eqb-false}
+use Rattle.std.proofs.Common.{◌≡◌, ◌≢◌, ℕ, zero, suc, ◌+◌, ◌-◌, ◌<◌, ◌≤◌, Bool, length, Some, None, refl, sym, ◌∙◌, ap, subst, inl, inr, arith, le-add_right}
+use Rattle.std.specs.Prelude.{◌↔◌, IsTrue, option_and_then, IfSome}
+use Rattle.std.proofs.lemmas.Option.{none-some, same_Some, option_and_then_some}
+use Rattle.std.proofs.lemmas.Bool.{cases_lt, cases_cond, true≢false}
 use Rattle.flag_rules.specs.Flags.{holds_at}
+use Rattle.flag_rules.specs.Counts.{raised}
+use Rattle.loop_witness.specs.declared.turn.Turn.{Turn}
+use Rattle.loop_witness.specs.declared.turn.Turn.TheVariants as turns
+use Rattle.loop_witness.specs.Marks.{Counted, IsLatest}
+use Rattle.loop_witness.specs.Turns.{IsAnswer}
+use Rattle.loop_witness.specs.Repetitions.{Repeats, NoneNoticedBy, Watches, IsTold as IsToldOf}
+use Rattle.loop_witness.proofs.MarkSteps.{latest_half}
+use Rattle.loop_witness.proofs.Repeating.{unnoticeable}
+use Rattle.loop_witness.proofs.Watching.{told}
 use Rattle.program_model.specs.declared.instr.Instr.{Instr}
 use Rattle.program_model.specs.declared.instr.Instr.TheVariants.{Op, Goto, End}
 use Rattle.program_model.specs.Semantics.{Semantics}
 use Rattle.program_model.specs.Program.{Program, line_at, IsPartial, IsInstr}
-use Rattle.program_model.specs.Run.{Config, step, next, at}
+use Rattle.program_model.specs.Run.{Config, first, step, next, at}
 use Rattle.program_model.specs.declared.standing.Stand.{Stand}
 use Rattle.program_model.specs.declared.standing.Stand.TheVariants as stands
-use Rattle.program_model.specs.Standing.{IsMark, IsNoticeable, IsNoticed, Comes, NothingBefore, IsStanding}
-use Rattle.flag_rules.specs.Counts.{raised}
-use Rattle.program_model.specs.Counts.{op_here, operations_made}
+use Rattle.program_model.specs.Standing.{IsNoticed, Comes, NothingBefore, IsStanding}
+use Rattle.program_model.specs.Counts.{op_count, op_here, operations_made}
 use Rattle.program_model.proofs.Alphabets.{contains_op, contains_jump, no_inner_end}
 use Rattle.program_model.proofs.Runs.{open_stops, last_stops, no_later}
 use Rattle.interpreter.specs.declared.configuration.Configuration.{Configuration}
-use Rattle.interpreter.specs.declared.running.Running.{Running}
-use Rattle.interpreter.specs.Inner.Progress.{config_of, Follows, IsRepeated, with_mark, GoesOn}
+use Rattle.interpreter.specs.declared.run.Run.{Run}
+use Rattle.interpreter.specs.Runs.{config_of, IsMarkOf, StandsFor, IsRunOf, IsTold}
+use Rattle.interpreter.specs.Inner.Progress.{IsRepeated, GoesOn, marked_after, HasStepped}
+use Rattle.interpreter.proofs.Noticing.{is_run, noticeable_in, noticed_out}
 
--- of two marked steps, the greater is more than twice the lesser
-marks_apart : (a b : ℕ) → IsMark a → IsMark b → a < b → 2 * a + 1 ≤ b
-marks_apart a b x y less = elim (cases_lt x.0 y.0) [
-  | inl h ↦
-      let two : 2 ^ suc x.0 ≤ 2 ^ y.0 = pow_mono (omega arith) in
-      let twice : 2 ^ suc x.0 ≡ 2 ^ x.0 * 2 = pow-suc 2 x.0 in
-      omega (arith, x.1, y.1)
-  | inr h ↦
-      let no : 2 ^ y.0 ≤ 2 ^ x.0 = pow_mono (omega arith) in
-      absurd (omega (arith, x.1, y.1))
-]
-
-module _ {C : Type 0} (m : Semantics C) (belongs : ℕ → C → Type 0) (q : Program) (t : ℕ) (partial : IsPartial m.ops q) (run : Running C) (follows : Follows m belongs q t run) where
-  -- ---- what comes
-
-  -- before the run's step nothing comes
-  nothing_before : NothingBefore m q t run.steps
-  nothing_before r stands.Ended l c = no_later m q t (suc r) run.steps (config_of run.here) (last_stops m m.ops q t r c.config partial c.comes c.last) (omega arith) follows.here
-  nothing_before r stands.Unmet l c = no_later m q t (suc r) run.steps (config_of run.here) (last_stops m m.ops q t r c.1.config partial c.1.comes c.1.last) (omega arith) follows.here
-  nothing_before r (stands.Waits line) l c = no_later m q t (suc r) run.steps (config_of run.here) (open_stops m q t r c.config c.comes (ap (line_at q) c.here ∙ c.is_open.undefined)) (omega arith) follows.here
-  nothing_before r (stands.Repeats i j) l c = let same : j ≡ r = c.0 in follows.unnoticed i j (omega arith) c.1.noticeable
-  nothing_before r stands.AtLimit l c = c
-  nothing_before r stands.QuotaUsed l c = c
-
-  -- where the run is in the marked configuration once more, that is the repetition that is noticed
-  noticed : IsRepeated run → IsNoticed m q t run.mark run.steps
-  noticed again =
-      record {
-        noticeable = record {
-          mark = follows.is_mark;
-          soon = follows.soon;
-          loops = record { config = config_of run.here; before = again.0; first_time = follows.marked ∙ ap Some (sym again.1); second_time = follows.here };
-        };
-        least_mark = λ a b l x.
-            let apart = marks_apart a run.mark x.mark follows.is_mark l in
-            let soon = x.soon in
-            follows.unnoticed a b (omega arith) x;
-        least_repeat = λ b l x. follows.unnoticed run.mark b l x;
-      }
-
-  -- else no repetition could be noticed
-  unnoticed : (IsRepeated run → ⊥) → (i : ℕ) → IsNoticeable m q t i run.steps → ⊥
-  unnoticed fresh i x =
-      let before = x.loops.before in
-      let soon = x.soon in
-      elim (cases_order i run.mark) [
-        | inl e ↦
-            let first : at m q t run.mark ≡ Some x.loops.config = ap (at m q t) (sym e) ∙ x.loops.first_time in
-            fresh (omega arith, same_Some (config_of run.here) (config_of run.marked) (sym follows.here ∙ x.loops.second_time ∙ sym first ∙ follows.marked))
-        | inr o ↦ elim o [
-          | inl l ↦ let apart = marks_apart i run.mark x.mark follows.is_mark l in omega arith
-          | inr l ↦ let apart = marks_apart run.mark i follows.is_mark x.mark l in omega arith
-        ]
-      ]
-
-  -- where no case of a standing holds, the run goes on
-  pub goes_on : (instr : Instr) → run.here.line ≢ length q - 1 → line_at q run.here.line ≡ Some instr → (IsRepeated run → ⊥) → GoesOn m q t run instr
-  goes_on instr inner defined fresh = let within = follows.within in record { inner = omega (arith, inner); defined = defined; unnoticed = unnoticed fresh }
-
-  -- where the run goes on, nothing comes at its step
-  nothing_here : (instr : Instr) → GoesOn m q t run instr → (x : Stand) → Comes m q t run.steps x → ⊥
-  nothing_here instr goes stands.Ended c =
-      let here : c.config ≡ config_of run.here = same_Some c.config (config_of run.here) (sym c.comes ∙ follows.here) in
-      let line : c.config.line ≡ run.here.line = ap (λ (config : Config C). config.line) here in
-      let last = c.last in
-      let inner = goes.inner in
-      omega arith
-  nothing_here instr goes stands.Unmet c =
-      let here : c.1.config ≡ config_of run.here = same_Some c.1.config (config_of run.here) (sym c.1.comes ∙ follows.here) in
-      let line : c.1.config.line ≡ run.here.line = ap (λ (config : Config C). config.line) here in
-      let last = c.1.last in
-      let inner = goes.inner in
-      omega arith
-  nothing_here instr goes (stands.Waits line) c =
-      let here : c.config ≡ config_of run.here = same_Some c.config (config_of run.here) (sym c.comes ∙ follows.here) in
-      none-some instr (sym c.is_open.undefined ∙ ap (line_at q) (sym c.here ∙ ap (λ (config : Config C). config.line) here) ∙ goes.defined)
-  nothing_here instr goes (stands.Repeats i j) c = goes.unnoticed i (subst (IsNoticeable m q t i) c.0 c.1.noticeable)
-  nothing_here instr goes stands.AtLimit c = c
-  nothing_here instr goes stands.QuotaUsed c = c
-
-  nothing_up_to : (instr : Instr) → GoesOn m q t run instr → NothingBefore m q t (run.steps + 1)
-  nothing_up_to instr goes r x l c = elim (cases_lt r run.steps) [
-    | inl h ↦ nothing_before r x h c
-    | inr h ↦
-        let same : r ≡ run.steps = omega arith in
-        nothing_here instr goes x (subst (λ s. Comes m q t s x) same c)
-  ]
-
-  -- ---- where the run stands
-
-  module _ (limit : ℕ) (in_limit : run.steps ≤ limit) where
-    -- on the last line it ended, or ended unmet
-    pub stands_ended : (stand : Stand) (missing : ℕ) → run.here.line + 1 ≡ length q → m.missing t run.here.value ≡ missing → (missing ≡ 0 → stand ≡ stands.Ended) → (0 < missing → stand ≡ stands.Unmet) → IsStanding m q t limit run.steps stand
-    stands_ended stand zero last lacks met not_met = rw (met refl) (in_limit, record { config = config_of run.here; comes = follows.here; last = last; lacks = lacks }, nothing_before)
-    stands_ended stand (suc missing) last lacks met not_met = rw (not_met (omega arith)) (in_limit, (missing, record { config = config_of run.here; comes = follows.here; last = last; lacks = lacks }), nothing_before)
-
-    -- on an undefined line it waits
-    pub stands_waiting : line_at q run.here.line ≡ None → IsStanding m q t limit run.steps (stands.Waits run.here.line)
-    stands_waiting undefined = (in_limit, record { config = config_of run.here; comes = follows.here; here = refl; is_open = record { within = follows.within; undefined = undefined } }, nothing_before)
-
-    -- in the marked configuration once more it repeats
-    pub stands_looping : IsRepeated run → IsStanding m q t limit run.steps (stands.Repeats run.mark run.steps)
-    stands_looping again = (in_limit, (refl, noticed again), nothing_before)
-
-    -- at the limit it stands there
-    pub stands_at_limit : (instr : Instr) → GoesOn m q t run instr → run.steps ≡ limit → IsStanding m q t limit run.steps stands.AtLimit
-    stands_at_limit instr goes same = (same, rw (sym same, follows.here) refl, rw (sym same) (nothing_up_to instr goes))
-
--- ---- a step leads on
-
--- a run whose configuration was marked, if it was to be
-record IsReady {C : Type 0} (m : Semantics C) (belongs : ℕ → C → Type 0) (q : Program) (t : ℕ) (run now : Running C) : Type 0 where
-  pub here : now.here ≡ run.here
-  pub steps : now.steps ≡ run.steps
-  pub marked : at m q t now.mark ≡ Some (config_of now.marked)
-  pub is_mark : IsMark now.mark
-  pub before : now.mark ≤ run.steps
-  pub soon : run.steps ≤ 2 * now.mark
-  pub marked_belongs : belongs t now.marked.value
-
-ready : {C : Type 0} (m : Semantics C) (belongs : ℕ → C → Type 0) (q : Program) (t : ℕ) (run : Running C) → Follows m belongs q t run → IsReady m belongs q t run (with_mark run)
-ready m belongs q t run follows =
-    let by : (b : Bool) → (run.steps == 2 * run.mark + 1) ≡ b → IsReady m belongs q t run (if b then record run { marked = run.here; mark = run.steps } else run) = elim [
-      | true ↦ λ e.
-          let same = eqb-true run.steps (2 * run.mark + 1) e in
-          let power : run.steps + 1 ≡ 2 ^ suc follows.is_mark.0 = omega (arith, follows.is_mark.1, pow-suc 2 follows.is_mark.0) in
-          record { here = refl; steps = refl; marked = follows.here; is_mark = (suc follows.is_mark.0, power); before = omega arith; soon = omega arith; marked_belongs = follows.here_belongs }
-      | false ↦ λ e.
-          let apart = eqb-false run.steps (2 * run.mark + 1) e in
-          let before = follows.before in
-          let soon = follows.soon in
-          record { here = refl; steps = refl; marked = follows.marked; is_mark = follows.is_mark; before = omega arith; soon = omega (arith, apart); marked_belongs = follows.marked_belongs }
-    ] in
-    by (run.steps == 2 * run.mark + 1) refl
+-- ---- the lines where a run comes
 
 -- the operations of a line that is not the last are there
 pub op_is_there : (ops : ℕ) (q : Program) (line : ℕ) (instr : Instr) → IsPartial ops q → line + 1 < length q → line_at q line ≡ Some instr → (op : ℕ) → instr ≡ Op op → op < ops
@@ -169,54 +45,283 @@ step_within m q t (Goto target cond) here after fits inner e =
     elim (cases_cond (holds_at cond (m.sign here.value)) target (here.line + 1) after.line (sym line)) [ inl k ↦ omega arith | inr k ↦ omega arith ]
 step_within m q t End here after fits inner e = absurd (none-some after e)
 
+-- the last line has no step
+last_has_none : {C : Type 0} (m : Semantics C) (q : Program) (t : ℕ) (here after : Config C) → IsPartial m.ops q → here.line + 1 ≡ length q → next m q t here ≡ Some after → ⊥
+last_has_none m q t here after partial last e =
+    let same : here.line ≡ length q - 1 = omega arith in
+    none-some after (sym (ap (option_and_then (λ w. step m t w here)) (ap (line_at q) same ∙ partial.last)) ∙ e)
+
+-- a run of a partial program is on one of its lines
+pub at_within : {C : Type 0} (m : Semantics C) (q : Program) (t s : ℕ) (here : Config C) → IsPartial m.ops q → at m q t s ≡ Some here → here.line < length q
+at_within m q t zero here partial e =
+    let line : 0 ≡ here.line = ap (λ (config : Config _). config.line) (same_Some (first m t) here e) in
+    let some = partial.some in
+    omega arith
+at_within m q t (suc s) here partial e =
+    option_and_then_some (next m q t) (at m q t s) here e
+    (λ before came stepped. elim (cases_lt (before.line + 1) (length q)) [
+      | inl inner ↦ option_and_then_some (λ w. step m t w before) (line_at q before.line) here stepped
+          (λ instr defined made. step_within m q t instr before here (partial.each before.line instr defined) inner made)
+      | inr h ↦
+          let within = at_within m q t s before partial came in
+          absurd (last_has_none m q t before here partial (omega arith) stepped)
+    ])
+
 -- the instruction of a line that is not the last has a step
 step_made : {C : Type 0} (m : Semantics C) (q : Program) (t : ℕ) (instr : Instr) (line : ℕ) (here after : Config C) → IsInstr m.ops (length q) line instr → line + 1 < length q → IfSome (step m t instr here) (λ config. after ≡ config) → step m t instr here ≡ Some after
 step_made m q t (Op op) line here after fits inner e = ap Some (sym e)
 step_made m q t (Goto target cond) line here after fits inner e = ap Some (sym e)
 step_made m q t End line here after fits inner e = absurd (no_inner_end m.ops (length q) line inner fits)
 
--- a run that goes on stands after a step where the program's run does
-pub follows_on : {C : Type 0} (m : Semantics C) (belongs : ℕ → C → Type 0) (q : Program) (t : ℕ) (partial : IsPartial m.ops q) (run : Running C) (follows : Follows m belongs q t run) (instr : Instr) → GoesOn m q t run instr →
-    (now : Running C) → now ≡ with_mark run → (here : Configuration C) → IfSome (step m t instr (config_of now.here)) (λ config. config_of here ≡ config) → belongs t here.value →
-    Follows m belongs q t (record now { here = here; steps = now.steps + 1 })
-follows_on {C} m belongs q t partial run follows instr goes now same_now here stepped value =
-    let fits = partial.each run.here.line instr goes.defined in
-    let marked : IsReady m belongs q t run now = subst (IsReady m belongs q t run) (sym same_now) (ready m belongs q t run follows) in
-    let steps = marked.steps in
-    let before = marked.before in
-    let soon = marked.soon in
-    let made : step m t instr (config_of run.here) ≡ Some (config_of here) = step_made m q t instr run.here.line (config_of run.here) (config_of here) fits goes.inner
-    (subst (λ (c : Configuration C). IfSome (step m t instr (config_of c)) (λ config. config_of here ≡ config)) marked.here stepped) in
-    let after : now.steps + 1 ≡ suc run.steps = omega arith in
-    record {
-      here =
-          ap (at m q t) after
-          ∙ ap (option_and_then (next m q t)) follows.here
-          ∙ ap (option_and_then (λ w. step m t w (config_of run.here))) goes.defined
-          ∙ made;
-      marked = marked.marked;
-      is_mark = marked.is_mark;
-      before = omega arith;
-      soon = omega arith;
-      within = step_within m q t instr (config_of run.here) (config_of here) fits goes.inner made;
-      here_belongs = value;
-      marked_belongs = marked.marked_belongs;
-      unnoticed = λ i j l x. elim (cases_lt j run.steps) [
-        | inl h ↦ follows.unnoticed i j h x
-        | inr h ↦ let same : j ≡ run.steps = omega arith in goes.unnoticed i (subst (IsNoticeable m q t i) same x)
-      ];
-    }
-
 -- ---- counts
 
-raised_on : (count x y : ℕ) → x ≤ y → raised (raised count x) (y - x) ≡ raised count y
-raised_on count x y h = omega arith
+raised_more : (count x y more : ℕ) → y ≤ x → raised (raised count (x - y)) more ≡ raised count (x + more - y)
+raised_more count x y more h = omega arith
 
-operations_grow : {C : Type 0} (m : Semantics C) (q : Program) (t steps after : ℕ) → after ≡ steps + 1 → operations_made m q t steps ≤ operations_made m q t after
-operations_grow m q t steps zero e = absurd (omega arith)
-operations_grow m q t steps (suc after) e = subst (λ s. operations_made m q t s ≤ operations_made m q t (suc after)) (omega arith) (le-add_right (operations_made m q t after) (op_here q (at m q t after)))
+pub operations_grow : {C : Type 0} (m : Semantics C) (q : Program) (t from to : ℕ) → from ≤ to → operations_made m q t from ≤ operations_made m q t to
+operations_grow m q t from zero le = let same : from ≡ 0 = omega arith in omega (arith, ap (operations_made m q t) same)
+operations_grow m q t from (suc to) le = elim (cases_lt to from) [
+  | inl h ↦ let same : from ≡ suc to = omega arith in omega (arith, ap (operations_made m q t) same)
+  | inr h ↦
+      let before = operations_grow m q t from to h in
+      let more = le-add_right (operations_made m q t to) (op_here q (at m q t to)) in
+      omega arith
+]
 
--- a count that rose by a run's operations up to a step, and then by those of one step more
-pub counted_on : {C : Type 0} (m : Semantics C) (q : Program) (t steps after : ℕ) → after ≡ steps + 1 → (start mid end : ℕ) → mid ≡ raised start (operations_made m q t steps) → end ≡ raised mid (operations_made m q t after - operations_made m q t steps) → end ≡ raised start (operations_made m q t after)
-counted_on m q t steps after e start mid end x y =
-    y ∙ ap (λ count. raised count (operations_made m q t after - operations_made m q t steps)) x ∙ raised_on start _ _ (operations_grow m q t steps after e)
+-- ---- the first configuration
+
+-- a run that has made no step is one of each program
+pub begins : {C : Type 0} (m : Semantics C) (belongs : ℕ → C → Type 0) (q : Program) (run : Run C) → run.instance < m.instances → config_of run.here ≡ first m run.instance → config_of run.marked ≡ first m run.instance → run.marks ≡ record { steps = 0; mark = 0 } → IsLatest run.marks →
+    belongs run.instance run.here.value → belongs run.instance run.marked.value → IsRunOf m belongs q run
+begins m belongs q run within here marked marks latest here_belongs marked_belongs =
+    let steps : run.marks.steps ≡ 0 = ap (λ (marks : Counted). marks.steps) marks in
+    let mark : run.marks.mark ≡ 0 = ap (λ (marks : Counted). marks.mark) marks in
+    record {
+      within = within;
+      stands = record {
+        instance = refl;
+        steps = refl;
+        here = ap (at m q run.instance) steps ∙ ap Some (sym here);
+        marked = ap (at m q run.instance) mark ∙ ap Some (sym marked);
+        mark = inr (λ from x. let before = x.noticeable.loops.before in omega arith, latest);
+        unnoticed = λ from to few x. omega arith;
+      };
+      here_belongs = here_belongs;
+      marked_belongs = marked_belongs;
+    }
+
+module _ {C : Type 0} (m : Semantics C) (belongs : ℕ → C → Type 0) (q : Program) (partial : IsPartial m.ops q) (run : Run C) (one : IsRunOf m belongs q run) where
+  -- ---- what comes
+
+  -- before the run's step nothing comes
+  nothing_before : NothingBefore m q run.instance run.marks.steps
+  nothing_before r stands.Ended l c = no_later m q run.instance (suc r) run.marks.steps (config_of run.here) (last_stops m m.ops q run.instance r c.config partial c.comes c.last) (omega arith) one.stands.here
+  nothing_before r stands.Unmet l c = no_later m q run.instance (suc r) run.marks.steps (config_of run.here) (last_stops m m.ops q run.instance r c.1.config partial c.1.comes c.1.last) (omega arith) one.stands.here
+  nothing_before r (stands.Waits line) l c = no_later m q run.instance (suc r) run.marks.steps (config_of run.here) (open_stops m q run.instance r c.config c.comes (ap (line_at q) c.here ∙ c.is_open.undefined)) (omega arith) one.stands.here
+  nothing_before r (stands.Repeats i j) l c = let same : j ≡ r = c.0 in one.stands.unnoticed i j (omega arith) c.1
+  nothing_before r stands.AtLimit l c = c
+  nothing_before r stands.QuotaUsed l c = c
+
+  -- where no repetition is noticed at the run's step, the marks watch the run
+  watching : ((from : ℕ) → IsNoticed m q run.instance from run.marks.steps → ⊥) → IsLatest run.marks → Watches (at m q run.instance) run.marks
+  watching none latest =
+      let none_by : NoneNoticedBy (at m q run.instance) run.marks.steps =
+      λ from to few x. elim (cases_lt to run.marks.steps) [
+        | inl h ↦ one.stands.unnoticed from to h (noticed_out m q run.instance from to x)
+        | inr h ↦
+            let same : to ≡ run.marks.steps = omega arith in
+            none from (subst (IsNoticed m q run.instance from) same (noticed_out m q run.instance from to x))
+      ] in
+      record {
+        latest = latest;
+        unnoticed = λ i j few x. unnoticeable (next m q run.instance) (at m q run.instance) (is_run m q run.instance) run.marks.steps none_by (suc i) i j (omega arith) few x;
+      }
+
+  -- where the run is in the marked configuration once more, that is the repetition that is noticed
+  noticed : IsRepeated run → IsNoticed m q run.instance run.marks.mark run.marks.steps
+  noticed again = elim one.stands.mark [
+    | inl x ↦ x
+    | inr none ↦
+        let half = latest_half run.marks none.1 in
+        absurd ((watching none.0 none.1).unnoticed run.marks.mark run.marks.steps (omega arith) (record {
+          mark = none.1.is_mark_step;
+          soon = omega arith;
+          repeats = record { config = config_of run.here; before = again.0; first_time = one.stands.marked ∙ ap Some (sym again.1); second_time = one.stands.here };
+        }))
+  ]
+
+  -- else the marks watch the run
+  watches : (IsRepeated run → ⊥) → Watches (at m q run.instance) run.marks
+  watches apart = elim one.stands.mark [
+    | inl x ↦ absurd (apart (x.noticeable.loops.before, same_Some (config_of run.here) (config_of run.marked) (sym one.stands.here ∙ x.noticeable.loops.second_time ∙ sym x.noticeable.loops.first_time ∙ one.stands.marked)))
+    | inr none ↦ watching none.0 none.1
+  ]
+
+  pub within_lines : run.here.line < length q
+  within_lines = at_within m q run.instance run.marks.steps (config_of run.here) partial one.stands.here
+
+  -- where no case of a standing holds, the run goes on
+  pub goes_on : (instr : Instr) → run.here.line ≢ length q - 1 → line_at q run.here.line ≡ Some instr → (IsRepeated run → ⊥) → GoesOn m q run instr
+  goes_on instr inner defined apart = let within = within_lines in record { inner = omega (arith, inner); defined = defined; watches = watches apart }
+
+  -- where the run goes on, nothing comes at its step
+  nothing_here : (instr : Instr) → GoesOn m q run instr → (x : Stand) → Comes m q run.instance run.marks.steps x → ⊥
+  nothing_here instr goes stands.Ended c =
+      let here : c.config ≡ config_of run.here = same_Some c.config (config_of run.here) (sym c.comes ∙ one.stands.here) in
+      let line : c.config.line ≡ run.here.line = ap (λ (config : Config C). config.line) here in
+      let last = c.last in
+      let inner = goes.inner in
+      omega arith
+  nothing_here instr goes stands.Unmet c =
+      let here : c.1.config ≡ config_of run.here = same_Some c.1.config (config_of run.here) (sym c.1.comes ∙ one.stands.here) in
+      let line : c.1.config.line ≡ run.here.line = ap (λ (config : Config C). config.line) here in
+      let last = c.1.last in
+      let inner = goes.inner in
+      omega arith
+  nothing_here instr goes (stands.Waits line) c =
+      let here : c.config ≡ config_of run.here = same_Some c.config (config_of run.here) (sym c.comes ∙ one.stands.here) in
+      none-some instr (sym c.is_open.undefined ∙ ap (line_at q) (sym c.here ∙ ap (λ (config : Config C). config.line) here) ∙ goes.defined)
+  nothing_here instr goes (stands.Repeats i j) c = let same : j ≡ run.marks.steps = c.0 in goes.watches.unnoticed i j (omega arith) (noticeable_in m q run.instance i j c.1.noticeable)
+  nothing_here instr goes stands.AtLimit c = c
+  nothing_here instr goes stands.QuotaUsed c = c
+
+  pub nothing_up_to : (instr : Instr) → GoesOn m q run instr → NothingBefore m q run.instance (run.marks.steps + 1)
+  nothing_up_to instr goes r x l c = elim (cases_lt r run.marks.steps) [
+    | inl h ↦ nothing_before r x h c
+    | inr h ↦
+        let same : r ≡ run.marks.steps = omega arith in
+        nothing_here instr goes x (subst (λ s. Comes m q run.instance s x) same c)
+  ]
+
+  -- ---- where the run stands
+
+  module _ (limit : ℕ) (in_limit : run.marks.steps ≤ limit) where
+    -- on the last line it ended, or ended unmet
+    pub stands_ended : (stand : Stand) (missing : ℕ) → run.here.line + 1 ≡ length q → m.missing run.instance run.here.value ≡ missing → (missing ≡ 0 → stand ≡ stands.Ended) → (0 < missing → stand ≡ stands.Unmet) → IsStanding m q run.instance limit run.marks.steps stand
+    stands_ended stand zero last lacks met not_met = rw (met refl) (in_limit, record { config = config_of run.here; comes = one.stands.here; last = last; lacks = lacks }, nothing_before)
+    stands_ended stand (suc missing) last lacks met not_met = rw (not_met (omega arith)) (in_limit, (missing, record { config = config_of run.here; comes = one.stands.here; last = last; lacks = lacks }), nothing_before)
+
+    -- on an undefined line it waits
+    pub stands_waiting : line_at q run.here.line ≡ None → IsStanding m q run.instance limit run.marks.steps (stands.Waits run.here.line)
+    stands_waiting undefined = (in_limit, record { config = config_of run.here; comes = one.stands.here; here = refl; is_open = record { within = within_lines; undefined = undefined } }, nothing_before)
+
+    -- in the marked configuration once more it repeats
+    pub stands_looping : IsRepeated run → IsStanding m q run.instance limit run.marks.steps (stands.Repeats run.marks.mark run.marks.steps)
+    stands_looping again = (in_limit, (refl, noticed again), nothing_before)
+
+    -- at the limit it stands there
+    pub stands_at_limit : (instr : Instr) → GoesOn m q run instr → run.marks.steps ≡ limit → IsStanding m q run.instance limit run.marks.steps stands.AtLimit
+    stands_at_limit instr goes same = (same, rw (sym same, one.stands.here) refl, rw (sym same) (nothing_up_to instr goes))
+
+  -- ---- a step leads on
+
+  module _ (instr : Instr) (goes : GoesOn m q run instr) (new : Run C) (repeated : Bool) (stepped : HasStepped m instr run new repeated) where
+    after_step : new.marks.steps ≡ suc run.marks.steps
+    after_step = let counted = stepped.counted in omega arith
+
+    comes_next : at m q run.instance new.marks.steps ≡ Some (config_of new.here)
+    comes_next =
+        ap (at m q run.instance) after_step
+        ∙ ap (option_and_then (next m q run.instance)) one.stands.here
+        ∙ ap (option_and_then (λ w. step m run.instance w (config_of run.here))) goes.defined
+        ∙ step_made m q run.instance instr run.here.line (config_of run.here) (config_of new.here) (partial.each run.here.line instr goes.defined) goes.inner stepped.stepped
+
+    repeats_so : IsTrue repeated ↔ Repeats (at m q run.instance) run.marks.mark new.marks.steps
+    repeats_so = (
+      λ yes.
+          let counted = stepped.counted in
+          let reached = goes.watches.latest.reached in
+          record { config = config_of new.here; before = omega arith; first_time = one.stands.marked ∙ ap Some (sym (stepped.same.0 yes)); second_time = comes_next },
+      λ x. stepped.same.1 (same_Some (config_of new.here) (config_of run.marked) (sym comes_next ∙ x.second_time ∙ sym x.first_time ∙ one.stands.marked)),
+    )
+
+    MarkOn : Turn → Type 0
+    MarkOn turn = (at m q run.instance new.marks.mark ≡ Some (config_of new.marked)) × IsMarkOf m q run.instance new.marks
+
+    mark_on : (turn : Turn) → IsAnswer repeated run.marks new.marks turn → IsToldOf (at m q run.instance) new.marks turn → new.marked ≡ marked_after turn new.here run.marked → MarkOn turn
+    unfolding MarkOn
+    mark_on (turns.Repeat from to) answer x marked =
+        let mark : from ≡ new.marks.mark = answer.1 ∙ sym answer.3 in
+        let here = subst (λ i. IsNoticed m q run.instance i to) mark (noticed_out m q run.instance from to x) in
+        (ap (at m q run.instance) answer.3 ∙ one.stands.marked ∙ ap (λ (c : Configuration C). Some (config_of c)) (sym marked), inl (subst (IsNoticed m q run.instance new.marks.mark) answer.2 here))
+    mark_on turns.MarkHere answer x marked = (
+      ap (at m q run.instance) answer.2 ∙ comes_next ∙ ap (λ (c : Configuration C). Some (config_of c)) (sym marked),
+      inr (λ from y. x.unnoticed from new.marks.steps (omega arith) (noticeable_in m q run.instance from new.marks.steps y.noticeable), x.latest),
+    )
+    mark_on turns.Go answer x marked = (
+      ap (at m q run.instance) answer.2 ∙ one.stands.marked ∙ ap (λ (c : Configuration C). Some (config_of c)) (sym marked),
+      inr (λ from y. x.unnoticed from new.marks.steps (omega arith) (noticeable_in m q run.instance from new.marks.steps y.noticeable), x.latest),
+    )
+
+    marked_on : MarkOn stepped.turn
+    marked_on = mark_on stepped.turn stepped.answer (told (at m q run.instance) run.marks new.marks goes.watches stepped.counted repeated stepped.turn stepped.answer repeats_so) stepped.marked
+
+    stands_on : StandsFor m q run.instance new.marks.steps new
+    unfolding MarkOn
+    stands_on = record {
+      instance = stepped.instance;
+      steps = refl;
+      here = comes_next;
+      marked = marked_on.0;
+      mark = marked_on.1;
+      unnoticed = λ from to few x. let counted = stepped.counted in goes.watches.unnoticed from to (omega arith) (noticeable_in m q run.instance from to x.noticeable);
+    }
+
+    -- after a step the run is the program's
+    pub follows_on : belongs run.instance new.here.value → belongs run.instance new.marked.value → IsRunOf m belongs q new
+    follows_on here marked = record {
+      within = rw stepped.instance one.within;
+      stands = subst (λ t. StandsFor m q t new.marks.steps new) (sym stepped.instance) stands_on;
+      here_belongs = subst (λ t. belongs t new.here.value) (sym stepped.instance) here;
+      marked_belongs = subst (λ t. belongs t new.marked.value) (sym stepped.instance) marked;
+    }
+
+    again_so : (turn : Turn) → IsAnswer repeated run.marks new.marks turn → new.marked ≡ marked_after turn new.here run.marked → IsTrue repeated ↔ IsRepeated new
+    again_so (turns.Repeat from to) answer marked =
+        let counted = stepped.counted in
+        let reached = goes.watches.latest.reached in
+        let mark = answer.3 in
+        (λ yes. (omega arith, stepped.same.0 yes ∙ ap config_of (sym marked)), λ again. answer.0)
+    again_so turns.MarkHere answer marked =
+        let mark = answer.2 in
+        (λ yes. absurd (true≢false (sym yes ∙ answer.0)), λ again. let less = again.0 in absurd (omega arith))
+    again_so turns.Go answer marked =
+        (λ yes. absurd (true≢false (sym yes ∙ answer.0)), λ again. stepped.same.1 (again.1 ∙ ap config_of marked))
+
+    -- and the test tells whether it repeats there
+    pub repeated_on : IsTrue repeated ↔ IsRepeated new
+    repeated_on = again_so stepped.turn stepped.answer stepped.marked
+
+    -- ---- counts
+
+    operations_next : operations_made m q run.instance (suc run.marks.steps) ≡ operations_made m q run.instance run.marks.steps + op_count (Some instr)
+    operations_next =
+        let here : op_here q (at m q run.instance run.marks.steps) ≡ op_count (line_at q run.here.line) = ap (op_here q) one.stands.here in
+        ap (λ n. operations_made m q run.instance run.marks.steps + n) (here ∙ ap op_count goes.defined)
+
+    -- a count that rose by the operations from a step on, up to the run's step, and then by the step that was made
+    counted_here : (entry start mid end : ℕ) → entry ≤ run.marks.steps →
+        mid ≡ raised start (operations_made m q run.instance run.marks.steps - operations_made m q run.instance entry) → end ≡ raised mid (op_count (Some instr)) →
+        end ≡ raised start (operations_made m q run.instance new.marks.steps - operations_made m q run.instance entry)
+    counted_here entry start mid end le x y =
+        y
+        ∙ ap (λ count. raised count (op_count (Some instr))) x
+        ∙ raised_more start (operations_made m q run.instance run.marks.steps) (operations_made m q run.instance entry) (op_count (Some instr)) (operations_grow m q run.instance entry run.marks.steps le)
+        ∙ ap (λ n. raised start (n - operations_made m q run.instance entry)) (sym operations_next ∙ ap (operations_made m q run.instance) (sym after_step))
+
+    pub counted_on : (entry start mid end : ℕ) → entry ≤ run.marks.steps →
+        mid ≡ raised start (operations_made m q run.instance run.marks.steps - operations_made m q run.instance entry) → end ≡ raised mid (op_count (Some instr)) →
+        end ≡ raised start (operations_made m q new.instance new.marks.steps - operations_made m q new.instance entry)
+    counted_on entry start mid end le x y =
+        subst (λ t. end ≡ raised start (operations_made m q t new.marks.steps - operations_made m q t entry)) (sym stepped.instance) (counted_here entry start mid end le x y)
+
+-- ---- what is told
+
+-- a standing is told as it is
+pub told_standing : {C : Type 0} (m : Semantics C) (q : Program) (t quota limit from to : ℕ) (stand : Stand) → to ≤ from + quota → IsStanding m q t limit to stand → IsTold m q t quota limit from to stand
+told_standing m q t quota limit from to stands.Ended few x = (few, x)
+told_standing m q t quota limit from to stands.Unmet few x = (few, x)
+told_standing m q t quota limit from to (stands.Repeats i j) few x = (few, x)
+told_standing m q t quota limit from to (stands.Waits line) few x = (few, x)
+told_standing m q t quota limit from to stands.AtLimit few x = (few, x)
+told_standing m q t quota limit from to stands.QuotaUsed few x = absurd x

@@ -1,10 +1,12 @@
-ghost use Rattle.std.specs.Prelude.{◌≡◌, ℕ, ◌<◌, ◌↔◌, IsTrue, IfSome, Some};
-ghost use Rattle.program_model.specs.Run.{step};
+ghost use Rattle.std.specs.Prelude.{◌≡◌, ℕ, ◌<◌, ◌↔◌, IsTrue, IfOk, IfSome, Some};
+ghost use Rattle.program_model.specs.Run.{first, step};
 ghost use Rattle.flag_rules.specs.Counts.{raised};
 ghost use Rattle.program_model.specs.Counts.{op_count};
-ghost use Rattle.interpreter.specs.Inner.Progress.{config_of};
+ghost use Rattle.interpreter.specs.Runs.{config_of};
 
+use flag_rules::OutOfMemory;
 use program_model::{Instr, MAX_LINES, Machine};
+use std::alloc::Global;
 
 /// A configuration: the line where a run stands, and the value of the machine.
 #[derive(Drop)]
@@ -14,6 +16,22 @@ pub(crate) struct Configuration<C: Drop> {
 }
 
 impl<C: Drop> Configuration<C> {
+    /// The first one of an instance.
+    pub(crate) fn first<M: Machine<Cfg = C>>(
+        alloc: Global,
+        machine: &M,
+        t: u8,
+    ) -> Result<Configuration<C>, OutOfMemory>
+        requires { t < (M.semantics machine.now).instances }
+        ensures first { IfOk result (λ here. config_of here ≡ first (M.semantics machine.now) t) }
+        ensures value { IfOk result (λ here. M.belongs machine.now t here.value) }
+    {
+        Ok(Configuration {
+            line: 0,
+            value: machine.fresh(alloc, t)?,
+        })
+    }
+
     /// Makes the step of an instruction.
     pub(crate) fn step<M: Machine<Cfg = C>>(
         &mut self,
@@ -30,6 +48,7 @@ impl<C: Drop> Configuration<C> {
             (λ config. config_of self.new ≡ config) }
         ensures value { M.belongs machine.now t self.new.value }
         ensures acts { M.acts meter.new ≡ raised (M.acts meter.old) (op_count (Some instr)) }
+        ensures copies { M.copies meter.new ≡ M.copies meter.old }
     {
         match instr {
             Instr::Op(op) => {
@@ -65,6 +84,7 @@ impl<C: Drop> Configuration<C> {
         requires { (t : ℕ) × M.belongs machine.now t other.now.value × M.belongs machine.now t self.old.value }
         ensures same { self.new ≡ other.now }
         ensures acts { M.acts meter.new ≡ M.acts meter.old }
+        ensures copies { M.copies meter.new ≡ raised (M.copies meter.old) 1 }
     {
         self.line = other.line;
         machine.copy_into(&other.value, &mut self.value, meter);

@@ -1,13 +1,12 @@
-//! The run of a partial program over any machine, from the start of an instance to where it stands under a limit of steps.
+//! Runs of partial programs over any machine, which are suspended and advanced in turns.
 //!
-//! What a standing and an outcome are stands in program_model's specs/, in Standing and Outcome; specs/Inner has what is held
-//! on the way.
+//! What a standing is stands in program_model's specs/, in Standing. Of specs/ read Runs first, which says for which step of a
+//! program's run a suspended run stands, and what is told where it is advanced; Counts says how many copies that takes.
 #![tactic(auto)]
 
 mod configuration;
 mod laws;
-mod plain_run;
-mod running;
+mod run;
 
-pub use laws::limits;
-pub use plain_run::{MAX_RUN, from_start};
+pub use laws::{repetitions_are_noticed_in_time, runs_are_alike, runs_are_shared};
+pub use run::Run;

@@ -114,7 +114,7 @@ module _ {C : Type 0} (step : C → Option C) (run : ℕ → Option C) (is_run :
       })
 
   -- so where none is noticed up to a step, none can be
-  unnoticeable : (latest : ℕ) → NoneNoticedBy run latest → (bound a b : ℕ) → a < bound → b ≤ latest → IsNoticeable run a b → ⊥
+  pub unnoticeable : (latest : ℕ) → NoneNoticedBy run latest → (bound a b : ℕ) → a < bound → b ≤ latest → IsNoticeable run a b → ⊥
   unnoticeable latest none zero a b below few x = absurd (omega arith)
   unnoticeable latest none (suc bound) a b below few x = unnoticed_mark latest a none (λ c d less within y. unnoticeable latest none bound c d (omega arith) within y) (suc b) b (omega arith) few x
 

@@ -7,15 +7,16 @@ ghost use Rattle.program_model.specs.declared.verdict.Verdict.{Verdict};
 ghost use Rattle.program_model.specs.Standing.{IsNoticed, IsStanding};
 ghost use Rattle.program_model.specs.Verdict.{IsVerdict};
 
-use crate::{CONDITIONS, MAX_INSTANCES, MAX_LINES, MAX_OPS, MAX_POINTERS};
+use crate::{CONDITIONS, MAX_INSTANCES, MAX_LINES, MAX_OPS, MAX_POINTERS, MAX_RUN};
 
-/// A law: the limits on programs and machines, and how many conditions there are.
+/// A law: the limits on programs, machines and runs, and how many conditions there are.
 pub fn limits()
     ensures lines { MAX_LINES ≡ 16 }
     ensures operations { MAX_OPS ≡ 448 }
     ensures instances { MAX_INSTANCES ≡ 32 }
     ensures pointers { MAX_POINTERS ≡ 4 }
     ensures conditions { CONDITIONS ≡ 4 }
+    ensures run { MAX_RUN ≡ 10000000 }
 {}
 
 /// A law over all machines: a run of a partial program is, as far as it goes, the run of each program that extends it, so

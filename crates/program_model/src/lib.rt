@@ -22,5 +22,5 @@ pub use laws::{
 pub use machine::{MAX_INSTANCES, MAX_POINTERS, Machine};
 pub use outcome::RunOutcome;
 pub use partial::Partial;
-pub use standing::Stand;
+pub use standing::{MAX_RUN, Stand};
 pub use verdict::{Cause, Verdict};

@@ -1,3 +1,6 @@
+/// The greatest limit of steps of a run.
+pub const MAX_RUN: u64 = 10_000_000;
+
 /// Where a run of a partial program stands.
 #[derive(Clone, Copy, Debug, PartialEq, Eq, Drop)]
 pub enum Stand {

@@ -1,3 +1,4 @@
 pub mod Covers
 pub mod Grammar
 pub mod Accepted
+pub mod Splits

@@ -1,7 +1,7 @@
 //! The evidence of a search, as trees of partial programs, and what it shows.
 //!
 //! In specs/ read Covers first (what a tree shows), then Grammar (what an answer may say), then Accepted (when what it says
-//! is shown).
+//! is shown). Splits counts the splits that trees tell.
 #![tactic(auto)]
 
 mod evidence;

@@ -5,7 +5,7 @@ use Rattle.flag_rules.specs.declared.flags.Sign.TheVariants as signs
 
 -- where a counter starts
 abbrev pub start_of : ℕ → ℕ
-start_of counter = if counter == 0 then 3 else 1
+start_of counter = if counter == 0 then 3 else (if counter == 4 then 100 else 1)
 
 -- the count after one more operation
 abbrev pub next_count : ℕ → ℕ → ℕ

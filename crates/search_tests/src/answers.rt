@@ -7,10 +7,11 @@ use evaluations::Order;
 use flag_rules::{List, OutOfMemory};
 use refutation_check::accepts;
 use refutation_tree::{Mark, Tree};
+use search_bounds::Bounds;
 use std::alloc::Global;
 use std::process::Abort;
 use std::test::Fail;
-use synthesis::{Bounds, search};
+use synthesis::search;
 
 // A program of three lines solves the first counter. Its tree of that size has to be of the grammar alone.
 const CHANGES_OF_A_PROGRAM: &str = "\

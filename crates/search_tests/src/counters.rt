@@ -6,15 +6,16 @@ use flag_rules::{Cond, OutOfMemory, Sign};
 use program_model::{Instr, Machine, Partial};
 use std::alloc::Global;
 
-/// A machine with some of four counters in a row, each for an instance: one counts down from 3 and has its goal at 0, one
-/// counts down from 1 and never has its goal, one goes to and fro between 1 and 2, and one counts up.
+/// A machine with some of six counters in a row, each for an instance: one counts down from 3 and has its goal at 0, one
+/// counts down from 1 and never has its goal, one goes to and fro between 1 and 2, one counts up, and two count down from 100
+/// and from 1 and never have their goals.
 #[derive(Debug, Drop)]
 pub struct Counters {
     /// The first of them, from 0.
     pub first: u8,
     pub instances: u8,
     ghost some: { 0 < instances },
-    ghost few: { first + instances ≤ 4 },
+    ghost few: { first + instances ≤ 6 },
 }
 
 /// A count, and the sign of the last one.
@@ -35,7 +36,11 @@ pub struct Tally {
 fn start_of(counter: u8) -> u32
     ensures { result ≡ start_of counter }
 {
-    if counter == 0 { 3 } else { 1 }
+    match counter {
+        0 => 3,
+        4 => 100,
+        _ => 1,
+    }
 }
 
 // The count after one more operation.

@@ -24,3 +24,7 @@ mod programs;
 mod reports;
 #[cfg(test)]
 mod searches;
+#[cfg(test)]
+mod settling;
+#[cfg(test)]
+mod turns;

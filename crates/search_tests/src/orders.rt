@@ -1,8 +1,8 @@
 //! Texts that are read as orders, and the keys that orders give.
 
-use evaluations::{Key, MAX_STEPS, Order, Standing, key};
+use evaluations::{Key, Order, Standing, key};
 use flag_rules::Cond;
-use program_model::{Instr, MAX_INSTANCES, MAX_LINES, Partial};
+use program_model::{Instr, MAX_INSTANCES, MAX_LINES, MAX_RUN, Partial};
 use std::alloc::{AllocError, Global};
 use std::test::Fail;
 
@@ -197,7 +197,7 @@ fn partial_of(lines: &[Option<Instr>]) -> Partial {
 // The key by an order, where the standings are few enough and of few enough steps.
 fn key_of(order: &Order, partial: &Partial, standings: &[Standing]) -> Option<Key> {
     if standings.len() <= usize::from(MAX_INSTANCES)
-        && standings.iter().all(|standing| standing.steps <= MAX_STEPS)
+        && standings.iter().all(|standing| standing.steps <= MAX_RUN)
     {
         Some(key(order, partial, standings))
     } else {

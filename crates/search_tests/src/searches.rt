@@ -2,10 +2,11 @@ use crate::counters::{Counters, Tally};
 use crate::marks::text_of;
 use evaluations::Order;
 use refutation_tree::{Mark, Outcome};
+use search_bounds::Bounds;
 use std::alloc::{AllocError, Global};
 use std::process::Abort;
 use std::test::Fail;
-use synthesis::{Bounds, search};
+use synthesis::search;
 
 // A search in three lines with a budget of splits and a limit of steps: its outcome, the ends of its program, and its trees; ` / `
 // parts trees, and commas marks.

@@ -31,7 +31,7 @@ module _ {C : Type 0} (s : Setting C) (size : ℕ) where
     children_sized q line instrs sized here (λ i w e. fits (suc i) w e),
   )
 
-  followers_sized : (c : Child) (state : State) → IsSized c.program → HasState s c state → Each (λ (d : Child). IsSized d.program) (followers s c.program state)
+  pub followers_sized : (c : Child) (state : State) → IsSized c.program → HasState s c state → Each (λ (d : Child). IsSized d.program) (followers s c.program state)
   followers_sized c (judged v) sized h = tt
   followers_sized c (split line stamp) sized h = children_sized c.program line (alphabet s.machine.ops (length c.program) line) sized h (λ i instr e. contains_at (alphabet s.machine.ops (length c.program) line) i instr e)
   followers_sized c twin sized h = tt

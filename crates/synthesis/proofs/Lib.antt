@@ -16,6 +16,8 @@ pub mod Closing
 pub mod SpentBudgets
 pub mod LimitedRuns
 pub mod SpentRuns
+pub mod EnoughBudgets
+pub mod EnoughLimits
 pub mod Preorder
 pub mod WaitingPairs
 pub mod Splits

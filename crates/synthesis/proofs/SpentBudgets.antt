@@ -18,7 +18,8 @@ use Rattle.refutation_tree.specs.declared.evidence.Outcome.TheVariants as outcom
 use Rattle.refutation_tree.specs.declared.evidence.Answer.{Answer}
 use Rattle.synthesis.specs.Search.{Setting, State, judged, split, twin, Node, waits_at, is_waiting, AreChildren, Splits, Leads, here, next as next_split, Close, found, run_spent, budget_spent, refuted, SearchesSize, mark_of}
 use Rattle.synthesis.specs.Answers.{tree_of, RefutesSizes, none, next, Concludes, Searches, closed, nothing, IsAnswer}
-use Rattle.synthesis.specs.Spent.{is_split, splits_of, StandsInLast, SpendsBudget}
+use Rattle.refutation_tree.specs.Splits.{is_split, splits_of}
+use Rattle.synthesis.specs.Spent.{StandsInLast, SpendsBudget}
 use Rattle.synthesis.proofs.Lists.{split_at}
 
 -- ---- the split marks of nodes
@@ -26,7 +27,7 @@ use Rattle.synthesis.proofs.Lists.{split_at}
 abbrev pub marks_of : List Node → List Mark
 marks_of nodes = map (λ (node : Node). mark_of node.state) nodes
 
-abbrev split_marks : List Node → ℕ
+abbrev pub split_marks : List Node → ℕ
 split_marks nodes = count_by is_split (marks_of nodes)
 
 split_marks-append : (xs ys : List Node) → split_marks (xs ++ ys) ≡ split_marks xs + split_marks ys
@@ -39,7 +40,7 @@ judged_unsplit (verdicts.AtLimit t) = refl
 judged_unsplit (verdicts.Waiting line) = refl
 judged_unsplit verdicts.Solved = refl
 
-split_marks-cons : (node : Node) (nodes : List Node) (state : State) (count : ℕ) → node.state ≡ state → cond (is_split (mark_of state)) 1 0 ≡ count → split_marks (node ∷ nodes) ≡ count + split_marks nodes
+pub split_marks-cons : (node : Node) (nodes : List Node) (state : State) (count : ℕ) → node.state ≡ state → cond (is_split (mark_of state)) 1 0 ≡ count → split_marks (node ∷ nodes) ≡ count + split_marks nodes
 split_marks-cons node nodes state count is counts =
     sum_by-cons _ (mark_of node.state) (marks_of nodes)
     ∙ ap (λ n. n + split_marks nodes) (ap (λ x. cond (is_split (mark_of x)) 1 0) is ∙ counts)
@@ -85,7 +86,7 @@ module _ {C : Type 0} (s : Setting C) where
     leads_within from start stamp nodes few here = few
     leads_within from start stamp nodes few (next_split before old after leads stays splits) = let more : before < budget = stays.3 in omega arith
 
-    size_count : (size from to : ℕ) (nodes : List Node) (close : Close) → SearchesSize s budget size from to nodes close → to ≡ split_marks nodes + from
+    pub size_count : (size from to : ℕ) (nodes : List Node) (close : Close) → SearchesSize s budget size from to nodes close → to ≡ split_marks nodes + from
     size_count size from to nodes close h =
         omega (arith, leads_count from (h.root ∷ []) to nodes h.leads, judged-cons h.root [] h.is_root.is_judged.verdict h.is_root.is_judged.state)
 

@@ -5,7 +5,7 @@ use Rattle.std.proofs.lemmas.Option.{none-some, same_Some, slice_get-map}
 use Rattle.std.proofs.lemmas.List.{map-append}
 use Rattle.program_model.specs.declared.instr.Instr.{Instr}
 use Rattle.program_model.specs.Alphabet.{alphabet}
-use Rattle.program_model.specs.Program.{Program, with_line}
+use Rattle.program_model.specs.Program.{Program, with_line, IsPartial}
 use Rattle.program_model.specs.declared.verdict.Cause.TheVariants as causes
 use Rattle.program_model.specs.declared.verdict.Verdict.TheVariants as verdicts
 use Rattle.program_model.specs.Verdict.{IsVerdict}
@@ -125,6 +125,25 @@ module _ {C : Type 0} (s : Setting C) where
   verdict_at (c ∷ cs) (first ∷ nodes) (suc place) t node h here limited = verdict_at (followers s c.program first.state ++ cs) nodes place t node h.2 here limited
 
   module _ (budget : ℕ) where
+    -- where a size is closed at a run at its limit, a partial program of that size has such a run
+    pub record LimitedProgram (size t : ℕ) : Type 0 where
+      pub program : Program
+      pub is_partial : IsPartial s.machine.ops program
+      pub sized : length program ≡ size
+      pub is_verdict : IsVerdict s.machine program s.limit (verdicts.AtLimit t)
+
+    pub limited_program : (size from to t : ℕ) (nodes : List Node) → 0 < size → SearchesSize s budget size from to nodes (run_spent t) → LimitedProgram size t
+    limited_program size from to t nodes some search =
+        let it = limited_node nodes t search.closes.1 in
+        let grown = size_grown s budget size from to nodes (run_spent t) search in
+        let sized = each_at (λ (node : Node). IsSized s size node.program) nodes it.place it.node it.here (nodes_sized s size nodes (empty_alone s size) grown (empty_sized s size some, tt)) in
+        record {
+          program = it.node.program;
+          is_partial = sized.1;
+          sized = sized.0;
+          is_verdict = verdict_at (empty_alone s size) nodes it.place t it.node grown it.here it.limited;
+        }
+
     closed_spends : (size from to t : ℕ) (trees : List Tree) (nodes : List Node) (a : Answer) → 0 < size → SearchesSize s budget size from to nodes (run_spent t) → a.trees ≡ trees ++ tree_of size nodes ∷ [] → SpendsRun s.machine s.limit size t a.trees
     closed_spends size from to t trees nodes a some search is =
         let it = limited_node nodes t search.closes.1 in

@@ -11,10 +11,10 @@ use Rattle.program_model.specs.Semantics.{Semantics}
 use Rattle.program_model.specs.Program.{Program}
 use Rattle.program_model.specs.Standing.{IsStanding}
 use Rattle.program_model.specs.Outcome.{IsOutcome, AreOutcomesFrom, AreOutcomes}
-use Rattle.evaluations.specs.declared.standing.TheConstants.{MAX_STEPS}
+use Rattle.program_model.specs.declared.standing.TheConstants.{MAX_RUN}
 use Rattle.evaluations.specs.declared.standing.Standing.{Standing}
 use Rattle.evaluations.specs.Evaluations.{standing_of, key}
-use Rattle.synthesis.specs.declared.bounds.Bounds.{Bounds}
+use Rattle.search_bounds.specs.declared.bounds.Bounds.{Bounds}
 use Rattle.synthesis.specs.Search.{HasKey}
 use Rattle.synthesis.specs.BestFirst.{best_first}
 use Rattle.synthesis.specs.Inner.Judging.{key_if_waiting}
@@ -35,13 +35,13 @@ module _ {C : Type 0} (m : Semantics C) (q : Program) (limit : ℕ) where
     pub outcomes : (later : List RunOutcome) → AreOutcomesFrom m q limit t later → AreOutcomes m q limit (runs ++ later)
     pub are : standings ≡ map standing_of runs
     pub count : length standings ≡ t
-    pub short : All (λ (standing : Standing). standing.steps ≤ MAX_STEPS) standings
+    pub short : All (λ (standing : Standing). standing.steps ≤ MAX_RUN) standings
 
   -- one more run is looked at
-  pub standings_more : (t : ℕ) (standings after : List Standing) (x : RunOutcome) (standing : Standing) → limit ≤ MAX_STEPS → AreStandingsBelow t standings → x.instance ≡ t → IsOutcome m q limit x → standing ≡ standing_of x → after ≡ standings ++ standing ∷ [] → AreStandingsBelow (t + 1) after
+  pub standings_more : (t : ℕ) (standings after : List Standing) (x : RunOutcome) (standing : Standing) → limit ≤ MAX_RUN → AreStandingsBelow t standings → x.instance ≡ t → IsOutcome m q limit x → standing ≡ standing_of x → after ≡ standings ++ standing ∷ [] → AreStandingsBelow (t + 1) after
   standings_more t standings after x standing limited h instance outcome of_run e =
       let within : x.steps ≤ limit = few_steps x.instance x.steps x.standing outcome.stands in
-      let Short = λ (standing : Standing). standing.steps ≤ MAX_STEPS in
+      let Short = λ (standing : Standing). standing.steps ≤ MAX_RUN in
       let short : Short (standing_of x) = omega arith in
       rw (e, of_run) (record {
         runs = h.runs ++ x ∷ [];

@@ -2,4 +2,5 @@ pub mod Search
 pub mod Answers
 pub mod BestFirst
 pub mod Spent
+pub mod Enough
 pub mod Inner

@@ -1,5 +1,5 @@
 -- What an answer shows where its search spent the budget of splits, or the limit of steps of a run.
-use Rattle.std.specs.Prelude.{◌≡◌, ◌≢◌, ℕ, ◌<◌, ◌≤◌, ◌/◌, Bool, true, false, List, [], ◌∷◌, ◌++◌, length, Contains, slice_get, sum_by, count_by, Some}
+use Rattle.std.specs.Prelude.{◌≡◌, ◌≢◌, ℕ, ◌<◌, ◌≤◌, ◌/◌, List, [], ◌∷◌, ◌++◌, length, Contains, slice_get, Some}
 use Rattle.program_model.specs.Semantics.{Semantics}
 use Rattle.program_model.specs.Program.{Program, IsPartial, empty}
 use Rattle.program_model.specs.Run.{Config, at}
@@ -7,14 +7,7 @@ use Rattle.refutation_tree.specs.declared.evidence.Mark.{Mark}
 use Rattle.refutation_tree.specs.declared.evidence.Mark.TheVariants as marks
 use Rattle.refutation_tree.specs.declared.evidence.Tree.{Tree}
 use Rattle.refutation_tree.specs.Grammar.{child_programs}
-
-abbrev pub is_split : Mark → Bool
-is_split (marks.Split line stamp) = true
-is_split _ = false
-
--- how many splits were made: as many as their marks in all trees
-abbrev pub splits_of : List Tree → ℕ
-splits_of trees = sum_by (λ (tree : Tree). count_by is_split tree.marks) trees
+use Rattle.refutation_tree.specs.Splits.{splits_of}
 
 -- a mark stands in the last tree, which is that of a size
 pub record StandsInLast (mark : Mark) (size : ℕ) (trees : List Tree) : Type 0 where

@@ -1,20 +1,21 @@
-ghost use Rattle.std.specs.Prelude.{◌≡◌, ◌≤◌, [], All, IfOk, length};
+ghost use Rattle.std.specs.Prelude.{◌≡◌, ◌<◌, ◌≤◌, [], All, IfOk, length};
 ghost use Rattle.program_model.specs.declared.machine.TheConstants.{MAX_INSTANCES};
 ghost use Rattle.program_model.specs.Program.{IsPartial};
+ghost use Rattle.program_model.specs.Outcome.{IsOutcome};
 ghost use Rattle.program_model.specs.Verdict.{IsVerdict};
-ghost use Rattle.evaluations.specs.declared.standing.TheConstants.{MAX_STEPS};
+ghost use Rattle.program_model.specs.declared.standing.TheConstants.{MAX_RUN};
 ghost use Rattle.evaluations.specs.Evaluations.{key};
 ghost use Rattle.refutation_tree.specs.Accepted.{AreEndsFrom};
 ghost use Rattle.synthesis.specs.Search.{HasKey};
 ghost use Rattle.synthesis.specs.BestFirst.{best_first};
 ghost use Rattle.synthesis.specs.Inner.Judging.{joined, key_if_waiting};
 
-use crate::Bounds;
 use arrayvec::ArrayVec;
-use evaluations::{Key, MAX_STEPS, Order, Standing, key};
+use evaluations::{Key, Order, Standing, key};
 use flag_rules::{List, OutOfMemory};
-use interpreter::{MAX_RUN, from_start};
+use interpreter::Run;
 use program_model::{Cause, MAX_INSTANCES, Machine, Partial, RunOutcome, Stand, Verdict};
+use search_bounds::Bounds;
 use std::alloc::Global;
 
 // How many runs a judgement takes at most: one on each instance.
@@ -32,7 +33,7 @@ impl Judgement {
     // The judgement on a partial program that has a verdict, where its runs stand so. A key is made only where it waits.
     fn of(verdict: Verdict, order: &Order, partial: &Partial, standings: &[Standing]) -> Judgement
         requires few { length standings.now ≤ MAX_INSTANCES }
-        requires short { All (λ standing. standing.steps ≤ MAX_STEPS) standings.now }
+        requires short { All (λ standing. standing.steps ≤ MAX_RUN) standings.now }
         ensures verdict { result.verdict ≡ verdict }
         ensures key { result.key ≡ key_if_waiting verdict (key order.now partial.now standings.now) }
     {
@@ -53,6 +54,26 @@ impl Judgement {
             key: Key::empty(),
         }
     }
+}
+
+// The outcome of a partial program's run on an instance, which is made in one turn of as many steps as its limit has.
+fn outcome_on<M: Machine>(
+    alloc: Global,
+    machine: &M,
+    partial: &Partial,
+    t: u8,
+    limit: u64,
+    meter: &mut M::Meter,
+) -> Result<RunOutcome, OutOfMemory>
+    requires instance { t < (M.semantics machine.now).instances }
+    requires partial { IsPartial (M.semantics machine.now).ops partial.now }
+    requires limit { limit ≤ MAX_RUN }
+    ensures instance { IfOk result (λ outcome. outcome.instance ≡ t) }
+    ensures outcome { IfOk result (λ outcome. IsOutcome (M.semantics machine.now) partial.now limit outcome) }
+{
+    let mut run = Run::fresh(alloc, machine, t)?;
+    let standing = run.advance(machine, partial, limit, limit, meter);
+    Ok(run.outcome(machine, standing))
 }
 
 // The verdict where the run on one more instance, a greater one, is looked at, which does not refute the program.
@@ -94,7 +115,7 @@ pub(crate) fn judge<M: Machine>(
     let mut verdict = Verdict::Solved;
     let mut standings = ArrayVec::<Standing, MAX_RUNS>::new();
     for t in 0..machine.instances() {
-        let outcome = from_start(alloc, machine, partial, t, bounds.run, meter)?;
+        let outcome = outcome_on(alloc, machine, partial, t, bounds.run, meter)?;
         if let Some(cause) = outcome.cause() {
             return Ok(Judgement::refused(t, cause));
         }
@@ -119,7 +140,7 @@ pub(crate) fn ends_of<M: Machine>(
 {
     let mut ends = List::new(alloc);
     for t in 0..machine.instances() {
-        let outcome = from_start(alloc, machine, partial, t, limit, meter)?;
+        let outcome = outcome_on(alloc, machine, partial, t, limit, meter)?;
         ends.push(outcome.steps)?;
     }
     Ok(ends)

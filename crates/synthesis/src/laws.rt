@@ -1,4 +1,4 @@
-ghost use Rattle.std.specs.Prelude.{◌≡◌, ℕ, ◌<◌, ◌≤◌, List, [], ◌∷◌};
+ghost use Rattle.std.specs.Prelude.{◌≡◌, ◌≢◌, ℕ, ◌<◌, ◌≤◌, List, [], ◌∷◌};
 ghost use Rattle.program_model.specs.declared.alphabet.TheConstants.{MAX_LINES};
 ghost use Rattle.program_model.specs.declared.machine.TheConstants.{MAX_INSTANCES, MAX_POINTERS};
 ghost use Rattle.refutation_tree.specs.declared.evidence.Outcome.TheVariants as outcomes;
@@ -8,14 +8,8 @@ ghost use Rattle.refutation_tree.specs.Accepted.{IsAccepted};
 ghost use Rattle.refutation_tree.specs.Grammar.{IsFromOneTo};
 ghost use Rattle.synthesis.specs.Search.{Setting, Node, Leads, newest, first_solved, first_limited};
 ghost use Rattle.synthesis.specs.Answers.{IsAnswer};
+ghost use Rattle.synthesis.specs.Enough.{splits_up_to, IsEnoughFor, IsDecided};
 ghost use Rattle.synthesis.specs.Spent.{SpendsBudget, SpendsRun};
-
-use crate::MAX_BUDGET;
-
-/// A law: the greatest budget of a search, as a number.
-pub fn limits()
-    ensures { MAX_BUDGET ≡ 100000 }
-{}
 
 /// A law over all machines that have an operation: the answer of a search is accepted, whatever orders the nodes that wait
 /// and whichever children are passed over, where the numbers of the machine, the lines, the budget and the limit of steps are
@@ -61,4 +55,15 @@ pub fn a_spent_run_is_shown<C>()
     ensures { (setting : Setting C) (budget lines size t : ℕ) (answer : Answer) →
         IsAnswer setting budget lines answer → answer.outcome ≡ outcomes.SpentRun size t →
         SpendsRun setting.machine setting.limit size t answer.trees }
+{}
+
+/// A law over all machines: a budget of as many splits as there are partial programs that may be split is never spent; a limit of
+/// steps by which each run comes to something is reached by no run; and with both a search comes to a program or to none.
+pub fn enough_decides<C>()
+    ensures budget { (setting : Setting C) (budget lines : ℕ) (answer : Answer) (size : ℕ) → splits_up_to setting.machine.ops lines ≤ budget →
+        IsAnswer setting budget lines answer → answer.outcome ≢ outcomes.SpentExpansions size }
+    ensures limit { (setting : Setting C) (budget lines : ℕ) (answer : Answer) (size t : ℕ) → IsEnoughFor setting.machine lines setting.limit →
+        IsAnswer setting budget lines answer → answer.outcome ≢ outcomes.SpentRun size t }
+    ensures both { (setting : Setting C) (budget lines : ℕ) (answer : Answer) → splits_up_to setting.machine.ops lines ≤ budget →
+        IsEnoughFor setting.machine lines setting.limit → IsAnswer setting budget lines answer → IsDecided answer.outcome }
 {}

@@ -5,7 +5,6 @@
 //! bounds, and Spent, on what an answer shows where a budget or a limit was spent; specs/Inner has what the code holds on the way.
 #![tactic(auto)]
 
-mod bounds;
 mod fill;
 mod judgement;
 mod laws;
@@ -14,9 +13,8 @@ mod nodes;
 mod searcher;
 mod walk;
 
-pub use bounds::{Bounds, MAX_BUDGET};
 pub use laws::{
-    a_spent_budget_is_shown, a_spent_run_is_shown, at_most_one_answer, limits,
+    a_spent_budget_is_shown, a_spent_run_is_shown, at_most_one_answer, enough_decides,
     searched_answers_are_accepted, sizes_close_at_the_last_split,
 };
 pub use searcher::search;

@@ -4,11 +4,11 @@ ghost use Rattle.program_model.specs.Program.{IsPartial, IsOpen, IsInstr, with_l
 ghost use Rattle.program_model.specs.declared.alphabet.TheConstants.{MAX_LINES};
 ghost use Rattle.synthesis.specs.Search.{Node};
 ghost use Rattle.synthesis.specs.Answers.{Concludes, tree_of};
-ghost use Rattle.synthesis.specs.BestFirst.{AreWithinLimits, best_first, IsBestFirstAnswer};
+ghost use Rattle.search_bounds.specs.Limits.{AreWithinLimits};
+ghost use Rattle.synthesis.specs.BestFirst.{best_first, IsBestFirstAnswer};
 ghost use Rattle.synthesis.specs.Inner.Nodes.{MOST_CHILDREN, AreInPreorder, LinksOn, IsSoundEnd, HasGrown, CanGrow, close_of, IsEndingOn, IsSearched};
 ghost use Rattle.synthesis.specs.Inner.Splitting.{AreNumbers, AddsNewest, AddsChildren};
 
-use crate::Bounds;
 use crate::fill::filled;
 use crate::judgement::{ends_of, judge};
 use crate::newest::{Ending, Newest};
@@ -17,6 +17,7 @@ use crate::walk::tree_of;
 use flag_rules::{List, OutOfMemory};
 use program_model::{Instr, Machine, Partial, alphabet_len, instr_at};
 use refutation_tree::{Answer, Outcome, Tree};
+use search_bounds::Bounds;
 use std::alloc::Global;
 
 /// Searches for a smallest program of at most so many lines that solves every instance of a machine.

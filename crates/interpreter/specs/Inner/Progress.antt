@@ -1,53 +1,53 @@
--- What is held on the way: of a program's run before it stands.
-use Rattle.std.specs.Prelude.{◌≡◌, ℕ, ◌+◌, ◌-◌, ◌*◌, ◌==◌, if◌then◌else◌, ◌<◌, ◌≤◌, length, Option, Some, None}
+-- What the methods of a run owe each other.
+use Rattle.std.specs.Prelude.{◌≡◌, ◌↔◌, ℕ, ◌+◌, ◌<◌, Bool, IsTrue, IfSome, length, Some}
+use Rattle.loop_witness.specs.declared.turn.Turn.{Turn}
+use Rattle.loop_witness.specs.declared.turn.Turn.TheVariants as turns
+use Rattle.loop_witness.specs.Turns.{IsAnswer}
+use Rattle.loop_witness.specs.Repetitions.{Watches}
 use Rattle.program_model.specs.declared.instr.Instr.{Instr}
-use Rattle.program_model.specs.declared.standing.Stand.{Stand}
 use Rattle.program_model.specs.Semantics.{Semantics}
 use Rattle.program_model.specs.Program.{Program, line_at}
-use Rattle.program_model.specs.Run.{Config, at}
-use Rattle.program_model.specs.Standing.{IsMark, IsNoticeable, IsStanding}
+use Rattle.program_model.specs.Run.{step, at}
+use Rattle.program_model.specs.Standing.{IsStanding}
 use Rattle.interpreter.specs.declared.configuration.Configuration.{Configuration}
-use Rattle.interpreter.specs.declared.running.Running.{Running}
-use Rattle.interpreter.specs.declared.running.Turn.{Turn}
-use Rattle.interpreter.specs.declared.running.Turn.TheVariants as turns
-
--- the configuration that the code holds
-abbrev pub config_of : {C : Type 0} → Configuration C → Config C
-config_of here = record { line = here.line; value = here.value }
-
--- the run stands where the program's run stands after its steps; the marked configuration is that of the last step of a mark
--- before that, or of step 0; and no repetition could be noticed at an earlier step
-pub record Follows {C : Type 0} (m : Semantics C) (belongs : ℕ → C → Type 0) (q : Program) (t : ℕ) (run : Running C) : Type 0 where
-  pub here : at m q t run.steps ≡ Some (config_of run.here)
-  pub marked : at m q t run.mark ≡ Some (config_of run.marked)
-  pub is_mark : IsMark run.mark
-  pub before : run.mark ≤ run.steps - 1
-  pub soon : run.steps ≤ 2 * run.mark + 1
-  pub within : run.here.line < length q
-  pub here_belongs : belongs t run.here.value
-  pub marked_belongs : belongs t run.marked.value
-  pub unnoticed : (i j : ℕ) → j < run.steps → IsNoticeable m q t i j → ⊥
+use Rattle.interpreter.specs.declared.run.Run.{Run}
+use Rattle.interpreter.specs.declared.run.Next.{Next}
+use Rattle.interpreter.specs.declared.run.Next.TheVariants as nexts
+use Rattle.interpreter.specs.Runs.{config_of}
 
 -- the run stands in the marked configuration once more
-abbrev pub IsRepeated : {C : Type 0} → Running C → Type 0
-IsRepeated run = (run.mark < run.steps) × (config_of run.here ≡ config_of run.marked)
+abbrev pub IsRepeated : {C : Type 0} → Run C → Type 0
+IsRepeated run = (run.marks.mark < run.marks.steps) × (config_of run.here ≡ config_of run.marked)
 
--- the run with its configuration marked, where this is the last step that is compared with the marked one
-abbrev pub with_mark : {C : Type 0} → Running C → Running C
-with_mark run = if run.steps == 2 * run.mark + 1 then record run { marked = run.here; mark = run.steps } else run
-
--- the run does not stand: its line is not the last and has this instruction, and no repetition could be noticed
-pub record GoesOn {C : Type 0} (m : Semantics C) (q : Program) (t : ℕ) (run : Running C) (instr : Instr) : Type 0 where
+-- the run does not stand: its line is not the last and has this instruction, and no repetition can be noticed up to its step
+pub record GoesOn {C : Type 0} (m : Semantics C) (q : Program) (run : Run C) (instr : Instr) : Type 0 where
   pub inner : run.here.line + 1 < length q
   pub defined : line_at q run.here.line ≡ Some instr
-  pub unnoticed : (i : ℕ) → IsNoticeable m q t i run.steps → ⊥
+  pub watches : Watches (at m q run.instance) run.marks
 
 -- what comes next in a run under a limit of steps
-abbrev pub IsDue : {C : Type 0} → Semantics C → Program → ℕ → ℕ → Running C → Turn → Type 0
-IsDue m q t limit run (turns.Step instr) = (run.steps < limit) × GoesOn m q t run instr
-IsDue m q t limit run (turns.Stop stand) = IsStanding m q t limit run.steps stand
+abbrev pub IsNext : {C : Type 0} → Semantics C → Program → ℕ → Run C → Next → Type 0
+IsNext m q limit run (nexts.Step instr) = (run.marks.steps < limit) × GoesOn m q run instr
+IsNext m q limit run (nexts.Stop stand) = IsStanding m q run.instance limit run.marks.steps stand
 
--- the run made a step, or it stands
-abbrev pub HasAdvanced : {C : Type 0} → Semantics C → Program → ℕ → ℕ → Running C → Running C → Option Stand → Type 0
-HasAdvanced m q t limit old new None = (old.steps < limit) × (new.steps ≡ old.steps + 1)
-HasAdvanced m q t limit old new (Some stand) = (new ≡ old) × IsStanding m q t limit new.steps stand
+-- the marked configuration where the marks turned so, and the run is here
+abbrev pub marked_after : {C : Type 0} → Turn → Configuration C → Configuration C → Configuration C
+marked_after turns.MarkHere here marked = here
+marked_after turns.Go here marked = marked
+marked_after (turns.Repeat from to) here marked = marked
+
+-- how many configurations are copied where the marks turned so
+abbrev pub copies_after : Turn → ℕ
+copies_after turns.MarkHere = 1
+copies_after turns.Go = 0
+copies_after (turns.Repeat from to) = 0
+
+-- the run made the step of an instruction, after which it is in the marked configuration or not, and its marks turned so
+pub record HasStepped {C : Type 0} (m : Semantics C) (instr : Instr) (old new : Run C) (repeated : Bool) : Type 0 where
+  pub instance : new.instance ≡ old.instance
+  pub stepped : IfSome (step m old.instance instr (config_of old.here)) (λ config. config_of new.here ≡ config)
+  pub counted : new.marks.steps ≡ old.marks.steps + 1
+  pub same : IsTrue repeated ↔ (config_of new.here ≡ config_of old.marked)
+  pub turn : Turn
+  pub answer : IsAnswer repeated old.marks new.marks turn
+  pub marked : new.marked ≡ marked_after turn new.here old.marked
