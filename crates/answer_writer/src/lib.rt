@@ -6,4 +6,4 @@
 mod writing;
 mod written_lines;
 
-pub use writing::write_answer;
+pub use writing::{add_found, add_verdict, write_answer};

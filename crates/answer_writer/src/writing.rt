@@ -9,7 +9,7 @@ use crate::written_lines::{MAX_LINE, ends_line, line_text, mark_line, number_lin
 use arrayvec::ArrayVec;
 use bfgp_outside::{Sink, SinkFailed};
 use program_text::{Gathered, Names, add_program};
-use refutation_tree::{Answer, Mark, Tree};
+use refutation_tree::{Answer, Mark, Outcome, Tree};
 
 /// Puts the document of an answer, in pieces of some kilobytes. It takes no memory.
 pub fn write_answer<K: Sink>(sink: &mut K, answer: &Answer, names: &Names) -> Result<(), SinkFailed>
@@ -71,8 +71,19 @@ fn add_evidence<K: Sink>(
 ) -> Result<(), SinkFailed>
     ensures { Gathers K.written K.faults sink.old sink.new gathered.old gathered.new result (lines_of (verdict_line answer.now.outcome ∷ flat_map tree_lines answer.now.trees)) }
 {
-    add_line(sink, gathered, &verdict_line(answer.outcome))?;
+    add_verdict(sink, gathered, answer.outcome)?;
     add_trees(sink, gathered, answer.trees.as_slice())
+}
+
+/// Gathers the line of a verdict.
+pub fn add_verdict<K: Sink>(
+    sink: &mut K,
+    gathered: &mut Gathered,
+    outcome: Outcome,
+) -> Result<(), SinkFailed>
+    ensures { Gathers K.written K.faults sink.old sink.new gathered.old gathered.new result (lines_of (verdict_line outcome ∷ [])) }
+{
+    add_line(sink, gathered, &verdict_line(outcome))
 }
 
 fn add_trees<K: Sink>(
@@ -108,8 +119,8 @@ fn add_marks<K: Sink>(
     Ok(())
 }
 
-// Gathers the program, if one was found.
-fn add_found<K: Sink>(
+/// Gathers the program after a line that says so, if one was found.
+pub fn add_found<K: Sink>(
     sink: &mut K,
     gathered: &mut Gathered,
     answer: &Answer,

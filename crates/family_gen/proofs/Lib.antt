@@ -1,0 +1,10 @@
+pub mod Lists
+pub mod MadeWords
+pub mod Alike
+pub mod SameParts
+pub mod Faultless
+pub mod Spelling
+pub mod Fitting
+pub mod Reading
+pub mod Numbers
+pub mod Lengths

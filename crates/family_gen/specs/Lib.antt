@@ -1,0 +1,4 @@
+pub mod Domains
+pub mod Problems
+pub mod Families
+pub mod Parts
