@@ -6,7 +6,7 @@ use Rattle.pointer_machine.specs.Machine.{MachineParts}
 use Rattle.command_words.specs.declared.job.Job.{Job}
 use Rattle.command_words.specs.declared.job.Job.TheVariants.{Synth, Check}
 use Rattle.command_words.specs.declared.job.SynthJob.{SynthJob}
-use Rattle.command_words.specs.Words.{JobOf, IsSynthJob}
+use Rattle.command_words.specs.Words.{JobOf}
 use Rattle.command_words.proofs.OneJob.{job_kept, JobOf-unique}
 use Rattle.input_reading.specs.Steps.{goes_on}
 use Rattle.input_reading.specs.Inputs.{file_due, machine_due}
@@ -29,15 +29,15 @@ search_comes words files job reply is verdict due =
     let known = concluded words files reply (verdict_no_input reply.status verdict) (verdict_no_usage reply.status verdict) due in
     subst (λ (j : Job). job_due files j (Ok reply)) (JobOf-unique words known.job (Synth job) known.job_is is) known.comes
 
-module _ (files : Files) (job : SynthJob) (is_job : IsSynthJob job) (reply : Reply) (known : Answered files job reply) where
+module _ (files : Files) (job : SynthJob) (reply : Reply) (known : Answered files job reply) where
   -- its text is the document of an accepted answer
   text_accepted : IsAcceptedDocument (posed_parts known.posed.task known.posed.instances job.pointers) job.bounds.lines reply.text
   text_accepted =
       let parts = posed_parts known.posed.task known.posed.instances job.pointers in
       subst (λ (text : List ℕ). IsAcceptedDocument parts job.bounds.lines text) (sym (ap (λ (r : Reply). r.text) known.is)) (record {
         answer = known.found;
-        says = document_says files job is_job reply known;
-        accepted = answer_accepted files job is_job reply known;
+        says = document_says files job reply known;
+        accepted = answer_accepted files job reply known;
       })
 
   -- it is due that a check of it accepts
@@ -61,6 +61,6 @@ check_accepts words files reply status old new due writes = λ job is verdict.
       appended = wrote.1;
       due = subst (Due words files) reply_is due;
       posed = known.posed;
-      is_accepted = text_accepted files job is_job reply known;
-      checked = λ name check_words later check_is holds short. answer (Check (check_of job name)) check_is (text_checked files job is_job reply known name later holds short);
+      is_accepted = text_accepted files job reply known;
+      checked = λ name check_words later check_is holds short. answer (Check (check_of job name)) check_is (text_checked files job reply known name later holds short);
     }

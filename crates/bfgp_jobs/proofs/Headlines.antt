@@ -9,6 +9,7 @@ use Rattle.ground_state.specs.declared.parts.TaskParts.{TaskParts}
 use Rattle.ground_state.specs.declared.parts.InstanceParts.{InstanceParts}
 use Rattle.ground_state.specs.Instance.{IsInstance}
 use Rattle.ground_state.specs.Ground.{ground_of}
+use Rattle.program_model.specs.declared.machine.TheConstants.{MAX_INSTANCES, MAX_POINTERS}
 use Rattle.program_model.specs.Program.{Program, IsProgram}
 use Rattle.program_model.specs.Semantics.{Semantics}
 use Rattle.program_text.specs.Names.{AreNames}
@@ -26,20 +27,26 @@ use Rattle.refutation_tree.specs.declared.evidence.Outcome.{Outcome}
 use Rattle.refutation_tree.specs.declared.evidence.Outcome.TheVariants as outcomes
 use Rattle.refutation_tree.specs.Accepted.{IsAccepted, IsSpentAt}
 use Rattle.refutation_tree.specs.Covers.{nobody}
-use Rattle.refutation_tree.specs.Grammar.{IsGrammatical, FitsOutcome}
+use Rattle.refutation_tree.specs.Grammar.{IsFromOneTo, IsGrammatical, FitsOutcome}
 use Rattle.refutation_tree.proofs.Covering.{nobody_is_fair}
 use Rattle.refutation_tree.proofs.Holding.{accepted_least, accepted_none, accepted_spent}
 use Rattle.answer_writer.specs.Document.{document}
+use Rattle.search_bounds.specs.declared.bounds.Bounds.{Bounds}
+use Rattle.search_bounds.specs.Limits.{AreWithinLimits}
+use Rattle.family_gen.specs.Families.{pointers_of, bounds_of}
+use Rattle.family_gen.specs.Parts.{family_task, family_instances}
+use Rattle.summary_writer.specs.Summary.{summary}
 use Rattle.answer_reader.specs.Reading.{IsDocument}
 use Rattle.synthesis.specs.BestFirst.{best_first, IsBestFirstAnswer}
 use Rattle.synthesis.proofs.Accepting.{searched_accepted}
 use Rattle.synthesis.proofs.SpentBudgets.{spent_budget_shown}
 use Rattle.synthesis.proofs.SpentRuns.{spent_run_shown}
 use Rattle.command_words.specs.declared.job.Job.{Job}
-use Rattle.command_words.specs.declared.job.Job.TheVariants.{Synth, Check, Run}
+use Rattle.command_words.specs.declared.job.Job.TheVariants.{Synth, Check, Run, Gen}
 use Rattle.command_words.specs.declared.job.SynthJob.{SynthJob}
 use Rattle.command_words.specs.declared.job.CheckJob.{CheckJob}
 use Rattle.command_words.specs.declared.job.RunJob.{RunJob}
+use Rattle.command_words.specs.declared.job.GenJob.{GenJob}
 use Rattle.command_words.specs.Words.{JobOf, IsSynthJob, IsCheckJob, IsJob}
 use Rattle.command_words.proofs.OneJob.{job_kept}
 use Rattle.input_reading.specs.Posed.{Poses, HoldsInstance}
@@ -51,11 +58,14 @@ use Rattle.bfgp_jobs.specs.declared.check.TheConstants.{MAX_DOCUMENT_BYTES}
 use Rattle.bfgp_jobs.specs.declared.status.Status.{Status}
 use Rattle.bfgp_jobs.specs.declared.status.Status.TheVariants.{Done, No, Usage, Input, SpentExpansions, SpentRun, ReadFault, WriteFault, OutOfMemory}
 use Rattle.bfgp_jobs.specs.Reply.{Reply}
-use Rattle.bfgp_jobs.specs.Due.{Due, answer, fault, usage, synth_due, check_due, run_due, job_due, status_of, report_status, VerdictDue, accepted, rejected}
-use Rattle.bfgp_jobs.specs.Headline.{Headline, Succeeds, Refutes, posed_parts, posed_machine, NoneShorter, NoneSolvesEach, GivesLeast, Shows, SaysAnswer, FindsLeast, RefutesAll, SpendsBudgetOf, SpendsRunOf, PosesCheck, DocumentShows, DocumentFails, PosesProgram, ProgramSolves, ProgramFails}
+use Rattle.bfgp_jobs.specs.Due.{Due, answer, fault, usage, synth_due, check_due, run_due, gen_due, job_due, status_of, report_status, VerdictDue, accepted, rejected}
+use Rattle.bfgp_jobs.specs.Headline.{Headline, Succeeds, Refutes, posed_parts, posed_machine, NoneShorter, NoneSolvesEach, GivesLeast, Shows, SaysAnswer, FindsLeast, RefutesAll, SpendsBudgetAt, SpendsRunAt, SearchResult, OfSynth, OfGen, OfSearch, TellsSummary, family_operations, PosesCheck, DocumentShows, DocumentFails, PosesProgram, ProgramSolves, ProgramFails}
 use Rattle.bfgp_jobs.specs.Inner.Replying.{Writes}
 use Rattle.bfgp_jobs.proofs.Checks.{one_document}
 use Rattle.bfgp_jobs.proofs.Runs.{program_over}
+use Rattle.bfgp_jobs.proofs.FamilyMachines.{family_machine_is, family_holds, family_pointers_few, family_instances_few}
+use Rattle.bfgp_jobs.proofs.Searches.{family_bounds_within}
+use Rattle.bfgp_jobs.proofs.Summaries.{ends_with_program}
 use Rattle.bfgp_jobs.proofs.GoalRuns.{solves_each, each_within, fails_one, solves_all, ends_each}
 
 -- ---- what an accepted answer shows
@@ -101,35 +111,16 @@ module _ (task : TaskParts) (instances : List InstanceParts) (pointers lines : �
   shows (outcomes.SpentExpansions size) is = none_shorter size (subst (IsSpentAt size) (sym is) refl)
   shows (outcomes.SpentRun size t) is = none_shorter size (subst (IsSpentAt size) (sym is) refl)
 
--- ---- a reply of `synth`
--- what is posed, the machine over it, and the search's answer on it
-pub record Answered (files : Files) (job : SynthJob) (reply : Reply) : Type 0 where
-  pub posed : Poses job.inputs files
-  pub machine : MachineParts
-  pub made : machine_due files job.inputs job.pointers (Ok machine)
-  pub machine_is : machine ≡ posed_parts posed.task posed.instances job.pointers
-  fit : AreFit posed.task posed.instances
-  pub found : Answer
-  is_answer : IsBestFirstAnswer (posed_machine posed.task posed.instances job.pointers) job.bounds found
-  pub is : reply ≡ record { status = status_of found.outcome; text = document (operation_texts posed.task job.pointers) found }
-  named : AreNames (operation_texts posed.task job.pointers)
+-- ---- what the answer of a search shows
+-- the answer of a search over instances of a task that are valid, where its numbers are within their limits
+pub record IsSearched (task : TaskParts) (instances : List InstanceParts) (pointers : ℕ) (bounds : Bounds) (found : Answer) : Type 0 where
+  fit : AreFit task instances
+  few_pointers : IsFromOneTo MAX_POINTERS pointers
+  few_instances : IsFromOneTo MAX_INSTANCES (length instances)
+  within : AreWithinLimits bounds
+  is_answer : IsBestFirstAnswer (posed_machine task instances pointers) bounds found
 
-pub answered : (files : Files) (job : SynthJob) (reply : Reply) → IsSynthJob job → synth_due files job (Ok reply) → Answered files job reply
-answered files job reply is_job (goes_on {a = machine} made found) =
-    let held = machine_held files job.inputs job.pointers machine made in
-    record {
-      posed = held.posed;
-      machine = machine;
-      made = made;
-      machine_is = held.is;
-      fit = held.fit;
-      found = found.0;
-      is_answer = subst (λ (m : MachineParts). IsBestFirstAnswer (meaning_of m) job.bounds found.0) held.is found.1;
-      is = subst (λ (m : MachineParts). reply ≡ record { status = status_of found.0.outcome; text = document (operation_texts m.task m.pointers) found.0 }) held.is found.2;
-      named = operations-named held.posed.task job.pointers held.is_task is_job.some_pointers is_job.few_pointers held.few;
-    }
-
--- what the answer shows
+-- the outcome by its status
 done_is : (outcome : Outcome) → status_of outcome ≡ Done → (size : ℕ) × (outcome ≡ outcomes.Program size)
 done_is (outcomes.Program size) done = (size, refl)
 done_is outcomes.Nothing done = absurd (cc)
@@ -154,105 +145,206 @@ run_is outcomes.Nothing spent = absurd (cc)
 run_is (outcomes.SpentExpansions size) spent = absurd (cc)
 run_is (outcomes.SpentRun size t) spent = (size, t, refl)
 
-module _ (files : Files) (job : SynthJob) (is_job : IsSynthJob job) (reply : Reply) (known : Answered files job reply) where
+module _ (task : TaskParts) (instances : List InstanceParts) (pointers : ℕ) (bounds : Bounds) (found : Answer) (known : IsSearched task instances pointers bounds found) where
   abbrev machine : Semantics Pointing
-  machine = posed_machine known.posed.task known.posed.instances job.pointers
-
-  abbrev lines : ℕ
-  lines = job.bounds.lines
+  machine = posed_machine task instances pointers
 
   abbrev texts : List (List ℕ)
-  texts = operation_texts known.posed.task job.pointers
+  texts = operation_texts task pointers
 
   ops : length texts ≡ machine.ops
-  ops = length-map (operations_of known.posed.task job.pointers) (form_text known.posed.task)
+  ops = length-map (operations_of task pointers) (form_text task)
 
   -- the answer is accepted
-  pub answer_accepted : IsAccepted machine nobody lines known.found
-  answer_accepted =
-      let count = length-operations known.posed.task job.pointers in
-      let tables = length-map known.posed.instances (ground_of known.posed.task) in
-      let given = AllZip-long (HoldsInstance files known.posed.domain) job.inputs.instances known.posed.instances known.posed.instances_are in
-      let inputs = is_job.inputs in
-      let within = is_job.bounds in
-      searched_accepted (best_first machine job.bounds) job.bounds.budget (omega (arith, within.few_splits)) (omega (arith, within.few_steps)) lines known.found
-      (omega (arith, count, is_job.some_pointers))
-      (is_job.some_pointers, is_job.few_pointers)
-      (omega (arith, tables, given, inputs.some_instances), omega (arith, tables, given, inputs.few_instances))
+  searched_is_accepted : IsAccepted machine nobody bounds.lines found
+  searched_is_accepted =
+      let count = length-operations task pointers in
+      let tables = length-map instances (ground_of task) in
+      let within = known.within in
+      searched_accepted (best_first machine bounds) bounds.budget (omega (arith, within.few_splits)) (omega (arith, within.few_steps)) bounds.lines found
+      (omega (arith, count, known.few_pointers.0))
+      known.few_pointers
+      (omega (arith, tables, known.few_instances.0), omega (arith, tables, known.few_instances.1))
       (within.some_lines, within.few_lines)
       known.is_answer
 
+  -- it is of the grammar
+  searched_is_grammatical : IsGrammatical (length texts) found
+  searched_is_grammatical = subst (λ (n : ℕ). IsGrammatical n found) (sym ops) searched_is_accepted.grammatical
+
+  module _ (Written : Answer → Type 0) (written : Written found) where
+    -- with status 0 a program solves, and none with fewer lines does
+    finds : status_of found.outcome ≡ Done → FindsLeast task instances pointers bounds Written
+    finds done =
+        let outcome = done_is found.outcome done in
+        record {
+          answer = found;
+          gives = gives_least task instances pointers bounds.lines known.fit found searched_is_accepted outcome.0 outcome.1;
+          searched = known.is_answer;
+          written = written;
+        }
+
+    -- with status 1 none does
+    refutes : status_of found.outcome ≡ No → RefutesAll task instances pointers bounds Written
+    refutes refuted =
+        let outcome = no_is found.outcome refuted in
+        record {
+          none = none_solves_each task instances pointers bounds.lines known.fit found searched_is_accepted outcome;
+          answer = found;
+          nothing = outcome;
+          no_program = (subst (FitsOutcome machine.ops found) outcome searched_is_accepted.grammatical.outcome).0;
+          searched = known.is_answer;
+          written = written;
+        }
+
+    -- with status 4 the budget is spent
+    spends_budget : status_of found.outcome ≡ SpentExpansions → SpendsBudgetAt task instances pointers bounds Written
+    spends_budget spent =
+        let outcome = budget_is found.outcome spent in
+        record {
+          answer = found;
+          size = outcome.0;
+          says = outcome.1;
+          spends = spent_budget_shown (best_first machine bounds) bounds.budget bounds.lines outcome.0 found known.is_answer outcome.1;
+          none = none_shorter task instances pointers bounds.lines known.fit found searched_is_accepted outcome.0 (subst (IsSpentAt outcome.0) (sym outcome.1) refl);
+          no_program = (subst (FitsOutcome machine.ops found) outcome.1 searched_is_accepted.grammatical.outcome).0;
+          searched = known.is_answer;
+          written = written;
+        }
+
+    -- with status 5 a run is at its limit
+    spends_run : status_of found.outcome ≡ SpentRun → SpendsRunAt task instances pointers bounds Written
+    spends_run spent =
+        let outcome = run_is found.outcome spent in
+        record {
+          answer = found;
+          size = outcome.0;
+          t = outcome.1;
+          says = outcome.2;
+          spends = spent_run_shown (best_first machine bounds) bounds.budget bounds.lines outcome.0 outcome.1 found known.is_answer outcome.2;
+          none = none_shorter task instances pointers bounds.lines known.fit found searched_is_accepted outcome.0 (subst (IsSpentAt outcome.0) (sym outcome.2) refl);
+          no_program = (subst (FitsOutcome machine.ops found) outcome.2 searched_is_accepted.grammatical.outcome).1.0;
+          searched = known.is_answer;
+          written = written;
+        }
+
+-- the result of a search that ends with a status
+abbrev ResultOf : Status → SearchResult
+ResultOf Done = FindsLeast
+ResultOf No = RefutesAll
+ResultOf SpentExpansions = SpendsBudgetAt
+ResultOf SpentRun = SpendsRunAt
+ResultOf _ = λ task instances pointers bounds Written. Unit {0}
+
+search_shows : (task : TaskParts) (instances : List InstanceParts) (pointers : ℕ) (bounds : Bounds) (found : Answer) → IsSearched task instances pointers bounds found → (Written : Answer → Type 0) → Written found → (status : Status) → status_of found.outcome ≡ status → ResultOf status task instances pointers bounds Written
+search_shows task instances pointers bounds found known Written written Done is = finds task instances pointers bounds found known Written written is
+search_shows task instances pointers bounds found known Written written No is = refutes task instances pointers bounds found known Written written is
+search_shows task instances pointers bounds found known Written written SpentExpansions is = spends_budget task instances pointers bounds found known Written written is
+search_shows task instances pointers bounds found known Written written SpentRun is = spends_run task instances pointers bounds found known Written written is
+search_shows task instances pointers bounds found known Written written Usage is = tt
+search_shows task instances pointers bounds found known Written written Input is = tt
+search_shows task instances pointers bounds found known Written written ReadFault is = tt
+search_shows task instances pointers bounds found known Written written WriteFault is = tt
+search_shows task instances pointers bounds found known Written written OutOfMemory is = tt
+
+-- ---- a reply of `synth`
+-- what is posed, the machine over it, and the search's answer on it
+pub record Answered (files : Files) (job : SynthJob) (reply : Reply) : Type 0 where
+  pub posed : Poses job.inputs files
+  pub machine : MachineParts
+  pub made : machine_due files job.inputs job.pointers (Ok machine)
+  pub machine_is : machine ≡ posed_parts posed.task posed.instances job.pointers
+  pub found : Answer
+  searched : IsSearched posed.task posed.instances job.pointers job.bounds found
+  pub is : reply ≡ record { status = status_of found.outcome; text = document (operation_texts posed.task job.pointers) found }
+  named : AreNames (operation_texts posed.task job.pointers)
+
+pub answered : (files : Files) (job : SynthJob) (reply : Reply) → IsSynthJob job → synth_due files job (Ok reply) → Answered files job reply
+answered files job reply is_job (goes_on {a = machine} made found) =
+    let held = machine_held files job.inputs job.pointers machine made in
+    let given = AllZip-long (HoldsInstance files held.posed.domain) job.inputs.instances held.posed.instances held.posed.instances_are in
+    let inputs = is_job.inputs in
+    record {
+      posed = held.posed;
+      machine = machine;
+      made = made;
+      machine_is = held.is;
+      found = found.0;
+      searched = record {
+        fit = held.fit;
+        few_pointers = (is_job.some_pointers, is_job.few_pointers);
+        few_instances = (omega (arith, given, inputs.some_instances), omega (arith, given, inputs.few_instances));
+        within = is_job.bounds;
+        is_answer = subst (λ (m : MachineParts). IsBestFirstAnswer (meaning_of m) job.bounds found.0) held.is found.1;
+      };
+      is = subst (λ (m : MachineParts). reply ≡ record { status = status_of found.0.outcome; text = document (operation_texts m.task m.pointers) found.0 }) held.is found.2;
+      named = operations-named held.posed.task job.pointers held.is_task is_job.some_pointers is_job.few_pointers held.few;
+    }
+
+module _ (files : Files) (job : SynthJob) (reply : Reply) (known : Answered files job reply) where
+  abbrev posed_texts : List (List ℕ)
+  posed_texts = operation_texts known.posed.task job.pointers
+
+  -- the answer is accepted
+  pub answer_accepted : IsAccepted (posed_machine known.posed.task known.posed.instances job.pointers) nobody job.bounds.lines known.found
+  answer_accepted = searched_is_accepted known.posed.task known.posed.instances job.pointers job.bounds known.found known.searched
+
   -- the document says it
-  pub document_says : IsDocument texts (document texts known.found) known.found
-  document_says = (subst (λ (n : ℕ). IsGrammatical n known.found) (sym ops) answer_accepted.grammatical, refl)
+  pub document_says : IsDocument posed_texts (document posed_texts known.found) known.found
+  document_says = (searched_is_grammatical known.posed.task known.posed.instances job.pointers job.bounds known.found known.searched, refl)
 
   -- what was written says this answer, and no other
-  writes_answer : (old new : Option (List ℕ)) → Appends old new reply.text → SaysAnswer texts old new known.found
+  writes_answer : (old new : Option (List ℕ)) → Appends old new reply.text → SaysAnswer posed_texts old new known.found
   writes_answer old new appended = record {
-    bytes = document texts known.found;
+    bytes = document posed_texts known.found;
     appended = subst (λ (r : Reply). Appends old new r.text) known.is appended;
     says = document_says;
-    only = λ other says_too. one_document texts (document texts known.found) other known.found known.named says_too document_says;
+    only = λ other says_too. one_document posed_texts (document posed_texts known.found) other known.found known.named says_too document_says;
   }
 
-  -- with status 0 a program solves, and none with fewer lines does
-  finds : (old new : Option (List ℕ)) → reply.status ≡ Done → Appends old new reply.text → FindsLeast job files old new
-  finds old new done appended =
-      let outcome = done_is known.found.outcome (sym (ap (λ (r : Reply). r.status) known.is) ∙ done) in
-      record {
-        posed = known.posed;
-        answer = known.found;
-        gives = gives_least known.posed.task known.posed.instances job.pointers lines known.fit known.found answer_accepted outcome.0 outcome.1;
-        searched = known.is_answer;
-        written = writes_answer old new appended;
-      }
+  -- the result of the search
+  synth_shows : (status : Status) (old new : Option (List ℕ)) → reply.status ≡ status → Appends old new reply.text → OfSynth (ResultOf status) job files old new
+  synth_shows status old new ended appended =
+      (known.posed, search_shows known.posed.task known.posed.instances job.pointers job.bounds known.found known.searched (SaysAnswer posed_texts old new) (writes_answer old new appended) status (sym (ap (λ (r : Reply). r.status) known.is) ∙ ended))
 
-  -- with status 1 none does
-  refutes : (old new : Option (List ℕ)) → reply.status ≡ No → Appends old new reply.text → RefutesAll job files old new
-  refutes old new refuted appended =
-      let outcome = no_is known.found.outcome (sym (ap (λ (r : Reply). r.status) known.is) ∙ refuted) in
-      record {
-        posed = known.posed;
-        none = none_solves_each known.posed.task known.posed.instances job.pointers lines known.fit known.found answer_accepted outcome;
-        answer = known.found;
-        nothing = outcome;
-        no_program = (subst (FitsOutcome machine.ops known.found) outcome answer_accepted.grammatical.outcome).0;
-        searched = known.is_answer;
-        written = writes_answer old new appended;
-      }
+-- ---- a reply of `gen`
+-- the search's answer on the instances of the family
+record FamilyAnswered (job : GenJob) (reply : Reply) : Type 0 where
+  found : Answer
+  named : AreNames (family_operations job.family)
+  searched : IsSearched (family_task job.family) (family_instances job.family job.number) (pointers_of job.family) (bounds_of job.family) found
+  is : reply ≡ record { status = status_of found.outcome; text = summary (family_operations job.family) job.family job.number found }
 
-  -- with status 4 the budget is spent
-  spends_budget : (old new : Option (List ℕ)) → reply.status ≡ SpentExpansions → Appends old new reply.text → SpendsBudgetOf job files old new
-  spends_budget old new spent appended =
-      let outcome = budget_is known.found.outcome (sym (ap (λ (r : Reply). r.status) known.is) ∙ spent) in
-      record {
-        posed = known.posed;
-        answer = known.found;
-        size = outcome.0;
-        says = outcome.1;
-        spends = spent_budget_shown (best_first machine job.bounds) job.bounds.budget lines outcome.0 known.found known.is_answer outcome.1;
-        none = none_shorter known.posed.task known.posed.instances job.pointers lines known.fit known.found answer_accepted outcome.0 (subst (IsSpentAt outcome.0) (sym outcome.1) refl);
-        no_program = (subst (FitsOutcome machine.ops known.found) outcome.1 answer_accepted.grammatical.outcome).0;
-        searched = known.is_answer;
-        written = writes_answer old new appended;
-      }
+family_answered : (job : GenJob) (reply : Reply) → gen_due job (Ok reply) → FamilyAnswered job reply
+family_answered job reply (goes_on {a = machine} made found) =
+    let family = job.family in
+    let is = family_machine_is family job.number machine made in
+    let holds = family_holds family job.number machine made in
+    record {
+      found = found.0;
+      named = holds.named;
+      searched = record {
+        fit = holds.fit;
+        few_pointers = family_pointers_few family;
+        few_instances = family_instances_few family job.number;
+        within = family_bounds_within family;
+        is_answer = subst (λ (m : MachineParts). IsBestFirstAnswer (meaning_of m) (bounds_of family) found.0) is found.1;
+      };
+      is = subst (λ (m : MachineParts). reply ≡ record { status = status_of found.0.outcome; text = summary (operation_texts m.task m.pointers) family job.number found.0 }) is found.2;
+    }
 
-  -- with status 5 a run is at its limit
-  spends_run : (old new : Option (List ℕ)) → reply.status ≡ SpentRun → Appends old new reply.text → SpendsRunOf job files old new
-  spends_run old new spent appended =
-      let outcome = run_is known.found.outcome (sym (ap (λ (r : Reply). r.status) known.is) ∙ spent) in
-      record {
-        posed = known.posed;
-        answer = known.found;
-        size = outcome.0;
-        t = outcome.1;
-        says = outcome.2;
-        spends = spent_run_shown (best_first machine job.bounds) job.bounds.budget lines outcome.0 outcome.1 known.found known.is_answer outcome.2;
-        none = none_shorter known.posed.task known.posed.instances job.pointers lines known.fit known.found answer_accepted outcome.0 (subst (IsSpentAt outcome.0) (sym outcome.2) refl);
-        no_program = (subst (FitsOutcome machine.ops known.found) outcome.2 answer_accepted.grammatical.outcome).1.0;
-        searched = known.is_answer;
-        written = writes_answer old new appended;
-      }
+-- the result of the search
+gen_shows : (job : GenJob) (reply : Reply) (status : Status) (old new : Option (List ℕ)) → gen_due job (Ok reply) → reply.status ≡ status → Appends old new reply.text → OfGen (ResultOf status) job old new
+gen_shows job reply status old new due ended appended =
+    let family = job.family in
+    let known = family_answered job reply due in
+    let instances = family_instances family job.number in
+    let is_grammatical = searched_is_grammatical (family_task family) instances (pointers_of family) (bounds_of family) known.found known.searched in
+    let tells : TellsSummary job old new known.found = record {
+      appended = subst (λ (r : Reply). Appends old new r.text) known.is appended;
+      program = λ program given. ends_with_program (family_operations family) family job.number known.found program given known.named is_grammatical;
+    } in
+    search_shows (family_task family) instances (pointers_of family) (bounds_of family) known.found known.searched (TellsSummary job old new) tells status (sym (ap (λ (r : Reply). r.status) known.is) ∙ ended)
 
 -- ---- a reply of `check`
 -- what is posed, and the verdict on the document that its file holds
@@ -379,31 +471,24 @@ run_status files job reply here = let known = reported files job reply here in s
 -- ---- the headline
 -- with status 0
 succeeds : (files : Files) (job : Job) (reply : Reply) (old new : Option (List ℕ)) → IsJob job → job_due files job (Ok reply) → reply.status ≡ Done → Appends old new reply.text → Succeeds job files old new
-succeeds files (Synth job) reply old new is_job here done appended = finds files job is_job reply (answered files job reply is_job here) old new done appended
+succeeds files (Synth job) reply old new is_job here done appended = synth_shows files job reply (answered files job reply is_job here) Done old new done appended
 succeeds files (Check job) reply old new is_job here done appended = let known = checked files job reply is_job here in document_shows files job known.poses known.fit known.named reply known.verdict done
 succeeds files (Run job) reply old new is_job here done appended = program_solves files job reply (reported files job reply here) done
+succeeds files (Gen job) reply old new is_job here done appended = gen_shows job reply Done old new here done appended
 
 -- with status 1
 refuted : (files : Files) (job : Job) (reply : Reply) (old new : Option (List ℕ)) → IsJob job → job_due files job (Ok reply) → reply.status ≡ No → Appends old new reply.text → Refutes job files old new
-refuted files (Synth job) reply old new is_job here status appended = refutes files job is_job reply (answered files job reply is_job here) old new status appended
+refuted files (Synth job) reply old new is_job here status appended = synth_shows files job reply (answered files job reply is_job here) No old new status appended
 refuted files (Check job) reply old new is_job here status appended = let known = checked files job reply is_job here in document_fails files job known.poses known.fit known.named reply known.verdict status
 refuted files (Run job) reply old new is_job here status appended = program_fails files job reply (reported files job reply here) status
+refuted files (Gen job) reply old new is_job here status appended = gen_shows job reply No old new here status appended
 
--- with status 4
-budget_spent : (words : List (List ℕ)) (files : Files) (job : Job) (reply : Reply) (old new : Option (List ℕ)) → JobOf words job → job_due files job (Ok reply) → reply.status ≡ SpentExpansions → Appends old new reply.text → (synth : SynthJob) × JobOf words (Synth synth) × SpendsBudgetOf synth files old new
-budget_spent words files (Synth job) reply old new is here status appended =
-    let is_job = job_kept words (Synth job) is in
-    (job, is, spends_budget files job is_job reply (answered files job reply is_job here) old new status appended)
-budget_spent words files (Check job) reply old new is here status appended = absurd (subst IsYesOrNo status (checked_status files job reply here))
-budget_spent words files (Run job) reply old new is here status appended = absurd (subst IsYesOrNo status (run_status files job reply here))
-
--- with status 5
-run_spent : (words : List (List ℕ)) (files : Files) (job : Job) (reply : Reply) (old new : Option (List ℕ)) → JobOf words job → job_due files job (Ok reply) → reply.status ≡ SpentRun → Appends old new reply.text → (synth : SynthJob) × JobOf words (Synth synth) × SpendsRunOf synth files old new
-run_spent words files (Synth job) reply old new is here status appended =
-    let is_job = job_kept words (Synth job) is in
-    (job, is, spends_run files job is_job reply (answered files job reply is_job here) old new status appended)
-run_spent words files (Check job) reply old new is here status appended = absurd (subst IsYesOrNo status (checked_status files job reply here))
-run_spent words files (Run job) reply old new is here status appended = absurd (subst IsYesOrNo status (run_status files job reply here))
+-- with status 4 and with status 5
+spent : (files : Files) (job : Job) (reply : Reply) (status : Status) (old new : Option (List ℕ)) → IsJob job → job_due files job (Ok reply) → (IsYesOrNo status → ⊥) → reply.status ≡ status → Appends old new reply.text → OfSearch (ResultOf status) job files old new
+spent files (Synth job) reply status old new is_job here neither ended appended = synth_shows files job reply (answered files job reply is_job here) status old new ended appended
+spent files (Check job) reply status old new is_job here neither ended appended = absurd (neither (subst IsYesOrNo ended (checked_status files job reply here)))
+spent files (Run job) reply status old new is_job here neither ended appended = absurd (neither (subst IsYesOrNo ended (run_status files job reply here)))
+spent files (Gen job) reply status old new is_job here neither ended appended = gen_shows job reply status old new here ended appended
 
 -- a reply that tells neither a fault nor the usage is what a job comes to
 pub record Concluded (words : List (List ℕ)) (files : Files) (reply : Reply) : Type 0 where
@@ -431,11 +516,11 @@ headline words files reply Input old new due writes = tt
 headline words files reply SpentExpansions old new due writes =
     let wrote = writes.whole (λ e. cc) in
     let known = concluded words files reply (λ is. let both = wrote.0 ∙ is in cc) (λ is. let both = wrote.0 ∙ is in cc) due in
-    budget_spent words files known.job reply old new known.job_is known.comes (sym wrote.0) wrote.1
+    (known.job, known.job_is, spent files known.job reply SpentExpansions old new (job_kept words known.job known.job_is) known.comes (λ yes_or_no. yes_or_no) (sym wrote.0) wrote.1)
 headline words files reply SpentRun old new due writes =
     let wrote = writes.whole (λ e. cc) in
     let known = concluded words files reply (λ is. let both = wrote.0 ∙ is in cc) (λ is. let both = wrote.0 ∙ is in cc) due in
-    run_spent words files known.job reply old new known.job_is known.comes (sym wrote.0) wrote.1
+    (known.job, known.job_is, spent files known.job reply SpentRun old new (job_kept words known.job known.job_is) known.comes (λ yes_or_no. yes_or_no) (sym wrote.0) wrote.1)
 headline words files reply ReadFault old new due writes = tt
 headline words files reply WriteFault old new due writes = tt
 headline words files reply OutOfMemory old new due writes = tt

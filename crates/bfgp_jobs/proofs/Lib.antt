@@ -6,7 +6,10 @@ pub mod Checks
 pub mod Runs
 pub mod Outcomes
 pub mod GoalRuns
+pub mod Summaries
+pub mod FamilyMachines
 pub mod Headlines
 pub mod Accepting
 pub mod OneReply
 pub mod Written
+pub mod WithoutFiles

@@ -7,20 +7,23 @@ use Rattle.instance_report.specs.declared.answer.Report.{Report}
 use Rattle.instance_report.proofs.OneReport.{same_report}
 use Rattle.pointer_machine.specs.Machine.{MachineParts, meaning_of}
 use Rattle.pointer_machine.specs.Texts.{operation_texts}
-use Rattle.synthesis.specs.declared.bounds.Bounds.{Bounds}
+use Rattle.search_bounds.specs.declared.bounds.Bounds.{Bounds}
 use Rattle.refutation_tree.specs.declared.evidence.Answer.{Answer as SearchAnswer}
 use Rattle.answer_writer.specs.Document.{document}
+use Rattle.family_gen.specs.Families.{family_name, family_texts, pointers_of, bounds_of}
+use Rattle.summary_writer.specs.Summary.{summary}
 use Rattle.synthesis.specs.BestFirst.{best_first}
 use Rattle.synthesis.proofs.SameAnswers.{same_answer}
 use Rattle.command_words.specs.declared.job.Job.{Job}
-use Rattle.command_words.specs.declared.job.Job.TheVariants.{Synth, Check, Run}
+use Rattle.command_words.specs.declared.job.Job.TheVariants.{Synth, Check, Run, Gen}
+use Rattle.command_words.specs.declared.job.GenJob.{GenJob}
 use Rattle.command_words.specs.Words.{IsJob, JobOf}
 use Rattle.command_words.proofs.OneJob.{job_kept, JobOf-unique}
 use Rattle.bfgp_jobs.specs.Reply.{Reply}
 use Rattle.input_reading.proofs.Decided.{IsDecided, then_decided, tell_decided}
-use Rattle.input_reading.proofs.OneResult.{file_decided, machine_decided, machine_named, program_definite}
+use Rattle.input_reading.proofs.OneResult.{file_decided, machine_decided, machine_of_texts_decided, machine_named, program_definite}
 use Rattle.bfgp_jobs.specs.declared.check.TheConstants.{MAX_DOCUMENT_BYTES}
-use Rattle.bfgp_jobs.specs.Due.{Due, answer, fault, usage, fault_reply, answer_due, VerdictDue, accepted, rejected, report_due, job_due, status_of, report_status}
+use Rattle.bfgp_jobs.specs.Due.{Due, answer, fault, usage, fault_reply, answer_due, summary_due, VerdictDue, accepted, rejected, report_due, job_due, status_of, report_status}
 use Rattle.bfgp_jobs.proofs.Runs.{program_over}
 
 answer_decided : (machine : MachineParts) (bounds : Bounds) → IsDecided (answer_due machine bounds)
@@ -31,6 +34,19 @@ answer_decided machine bounds = record { one = both }
 
     both : (r s : Result Reply (List ℕ)) → answer_due machine bounds r → answer_due machine bounds s → r ≡ s
     both (Ok x) (Ok y) p q = ap Ok (p.2 ∙ ap reply_with (same_answer (best_first (meaning_of machine) bounds) bounds.budget bounds.lines p.0 q.0 p.1 q.1) ∙ sym q.2)
+    both (Ok x) (Err y) p q = absurd q
+    both (Err x) s p q = absurd p
+
+summary_decided : (job : GenJob) (machine : MachineParts) → IsDecided (summary_due job machine)
+summary_decided job machine = record { one = both }
+  where
+    reply_with : SearchAnswer → Reply
+    reply_with a = record { status = status_of a.outcome; text = summary (operation_texts machine.task machine.pointers) job.family job.number a }
+
+    both : (r s : Result Reply (List ℕ)) → summary_due job machine r → summary_due job machine s → r ≡ s
+    both (Ok x) (Ok y) p q =
+        let bounds = bounds_of job.family in
+        ap Ok (p.2 ∙ ap reply_with (same_answer (best_first (meaning_of machine) bounds) bounds.budget bounds.lines p.0 q.0 p.1 q.1) ∙ sym q.2)
     both (Ok x) (Err y) p q = absurd q
     both (Err x) s p q = absurd p
 
@@ -67,6 +83,10 @@ job_decided files (Run job) is =
     then_decided (file_decided files MAX_FILE_BYTES job.program) (λ bytes read.
     then_decided (tell_decided job.program (program_definite (operation_texts machine.task machine.pointers) bytes (machine_named files job.inputs job.pointers is.some_pointers is.few_pointers machine made))) (λ program reads.
     report_decided machine job.run program (program_over machine bytes program reads))))
+job_decided files (Gen job) is =
+    let texts = family_texts job.family job.number in
+    then_decided (machine_of_texts_decided (family_name job.family) texts.domain texts.problems (pointers_of job.family)) (λ machine made.
+    summary_decided job machine)
 
 abbrev reply_of : Result Reply (List ℕ) → Reply
 reply_of (Ok reply) = reply

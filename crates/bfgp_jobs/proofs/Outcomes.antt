@@ -4,7 +4,7 @@ use Rattle.std.specs.Prelude.{IfOk, IfErr}
 use Rattle.bfgp_outside.specs.Causes.{RoseIf}
 use Rattle.bfgp_outside.specs.Shelf.{Files, Knowing}
 use Rattle.command_words.specs.declared.job.Job.{Job}
-use Rattle.command_words.specs.declared.job.Job.TheVariants.{Synth, Check, Run}
+use Rattle.command_words.specs.declared.job.Job.TheVariants.{Gen}
 use Rattle.command_words.specs.Words.{JobOf}
 use Rattle.command_words.proofs.OneJob.{JobOf-unique}
 use Rattle.input_reading.specs.Asked.{AsksInTurn}
@@ -18,8 +18,8 @@ use Rattle.bfgp_jobs.specs.declared.replying.NoReply.{NoReply}
 use Rattle.bfgp_jobs.specs.declared.status.Status.TheVariants.{Input}
 use Rattle.bfgp_jobs.specs.Reply.{Reply}
 use Rattle.bfgp_jobs.specs.Due.{Due, answer, fault, usage, usage_reply, job_due}
-use Rattle.bfgp_jobs.specs.Answers.{AreSearch, AsksForNamed, IsAnswerStatus, IsSpent, files_of}
-use Rattle.bfgp_jobs.specs.Inner.Replying.{told, lacks_file, IsSearch, IsReplyStatus, RepliesUsage}
+use Rattle.bfgp_jobs.specs.Answers.{AreOfFamily, AreSearch, AsksForNamed, IsAnswerStatus, IsSearch, IsSpent, files_of}
+use Rattle.bfgp_jobs.specs.Inner.Replying.{told, lacks_file, ComesWithoutFiles, IsReplyStatus, RepliesUsage, RepliesWithoutFiles}
 use Rattle.bfgp_jobs.proofs.Statuses.{verdict_replies, verdict_no_input, verdict_no_usage}
 
 -- what a job's code gives is due
@@ -73,17 +73,12 @@ job_status outcome result same verdict = subst (λ (r : Result Reply NoReply). I
     by_outcome (Err ReadFault) verdict = tt
     by_outcome (Err OutOfMemory) verdict = tt
 
-search_of : (words : List (List ℕ)) (job : Job) → JobOf words job → IsSearch job → AreSearch words
-search_of words (Synth job) is search = (job, is)
-search_of words (Check job) is search = absurd search
-search_of words (Run job) is search = absurd search
-
 -- only a search spends
 pub job_spent : (words : List (List ℕ)) (job : Job) (outcome : Result Reply Halt) (result : Result Reply NoReply) → JobOf words job → result ≡ told outcome → IfOk outcome (λ reply. IsSpent reply.status → IsSearch job) → IfOk result (λ reply. IsSpent reply.status → AreSearch words)
 job_spent words job outcome result is same spent = subst (λ (r : Result Reply NoReply). IfOk r (λ reply. IsSpent reply.status → AreSearch words)) (sym same) (by_outcome outcome spent)
   where
     by_outcome : (o : Result Reply Halt) → IfOk o (λ reply. IsSpent reply.status → IsSearch job) → IfOk (told o) (λ reply. IsSpent reply.status → AreSearch words)
-    by_outcome (Ok reply) spent = λ is_spent. search_of words job is (spent is_spent)
+    by_outcome (Ok reply) spent = λ is_spent. (job, is, spent is_spent)
     by_outcome (Err (Refused line)) spent = λ is_spent. absurd is_spent
     by_outcome (Err ReadFault) spent = tt
     by_outcome (Err OutOfMemory) spent = tt
@@ -111,3 +106,19 @@ named_asked words job before now is here = record {
 -- nothing was asked for
 pub none_asked : (words : List (List ℕ)) (asked : Option (List (List ℕ))) → AsksForNamed words asked asked
 none_asked words asked = record { a_job = λ job is. asks_nothing asked (files_of job); no_job = λ none. refl }
+
+-- a search over a family is replied to without a file
+pub job_without_files : (words : List (List ℕ)) (job : Job) (outcome : Result Reply Halt) (result : Result Reply NoReply) → JobOf words job → result ≡ told outcome → IfOk outcome (λ reply. IsAnswerStatus reply.status) → ComesWithoutFiles job outcome → AreOfFamily words → RepliesWithoutFiles words result
+job_without_files words job outcome result is same verdict comes family =
+    let comes_so = subst (λ (j : Job). ComesWithoutFiles j outcome) (JobOf-unique words job (Gen family.0) is family.1) comes in
+    subst (RepliesWithoutFiles words) (sym same) (by_outcome outcome verdict comes_so)
+  where
+    by_outcome : (o : Result Reply Halt) → IfOk o (λ reply. IsAnswerStatus reply.status) → ComesWithoutFiles (Gen family.0) o → RepliesWithoutFiles words (told o)
+    by_outcome (Ok reply) verdict comes = record { due = λ files. answer (Gen family.0) family.1 comes.0; verdict = verdict; cause = tt }
+    by_outcome (Err (Refused line)) verdict comes = absurd (let e = comes.1 in cc)
+    by_outcome (Err ReadFault) verdict comes = absurd (let e = comes.1 in cc)
+    by_outcome (Err OutOfMemory) verdict comes = record { due = λ files. tt; verdict = tt; cause = refl }
+
+-- words that are those of a search over a family are a job
+pub usage_no_family : (words : List (List ℕ)) (result : Result Reply NoReply) → ((job : Job) → JobOf words job → ⊥) → AreOfFamily words → RepliesWithoutFiles words result
+usage_no_family words result none family = absurd (none (Gen family.0) family.1)

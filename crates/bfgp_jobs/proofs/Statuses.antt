@@ -4,7 +4,7 @@ use Rattle.bfgp_outside.specs.Causes.{Rose, RoseIf}
 use Rattle.bfgp_jobs.specs.declared.status.Status.{Status}
 use Rattle.bfgp_jobs.specs.declared.status.Status.TheVariants.{Done, No, Usage, Input, SpentExpansions, SpentRun, ReadFault, WriteFault, OutOfMemory}
 use Rattle.bfgp_jobs.specs.Reply.{Reply}
-use Rattle.bfgp_jobs.specs.Answers.{AreSearch, IsAnswerStatus, IsSpent}
+use Rattle.bfgp_jobs.specs.Answers.{AreSearch, IsAnswerStatus, IsSpent, TellsOfFile}
 use Rattle.bfgp_jobs.specs.Inner.Replying.{IsReplyStatus, Writes, is_write_fault}
 
 -- the status of an answer is one of a reply
@@ -55,6 +55,18 @@ verdict_no_write ReadFault verdict is = absurd verdict
 verdict_no_write WriteFault verdict is = absurd verdict
 verdict_no_write OutOfMemory verdict is = absurd verdict
 
+-- nor does it tell of a file
+pub verdict_no_file : (status : Status) → IsAnswerStatus status → TellsOfFile status → ⊥
+verdict_no_file Done verdict tells = tells
+verdict_no_file No verdict tells = tells
+verdict_no_file SpentExpansions verdict tells = tells
+verdict_no_file SpentRun verdict tells = tells
+verdict_no_file Usage verdict tells = tells
+verdict_no_file Input verdict tells = absurd verdict
+verdict_no_file ReadFault verdict tells = absurd verdict
+verdict_no_file WriteFault verdict tells = tells
+verdict_no_file OutOfMemory verdict tells = tells
+
 -- the status of a reply tells no write fault
 pub reply_kept : (status : Status) (faults faults_now : ℕ) → IsReplyStatus status → faults_now ≡ faults → RoseIf (is_write_fault status) faults faults_now
 reply_kept Done faults faults_now replies kept = kept
@@ -92,3 +104,9 @@ pub spent_written : (words : List (List ℕ)) (reply : Reply) (status : Status) 
 spent_written words reply status old new writes only spent =
     let same = writes.whole (λ fault. subst IsSpent fault spent) in
     only (subst IsSpent same.0 spent)
+
+-- what is written of an answer does not tell of a file
+pub no_file_written : (reply : Reply) (status : Status) (old new : Option (List ℕ)) → Writes reply status old new → IsAnswerStatus reply.status → TellsOfFile status → ⊥
+no_file_written reply status old new writes verdict tells =
+    let same = writes.whole (λ fault. subst TellsOfFile fault tells) in
+    verdict_no_file reply.status verdict (subst TellsOfFile same.0 tells)

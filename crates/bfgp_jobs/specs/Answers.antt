@@ -3,8 +3,8 @@ use Rattle.std.specs.Prelude.{◌≡◌, ◌≢◌, ℕ, List, [], ◌∷◌, �
 use Rattle.bfgp_outside.specs.Causes.{Rose}
 use Rattle.bfgp_outside.specs.Sink.{Keeps, Appends, AppendsPrefix}
 use Rattle.command_words.specs.declared.job.Job.{Job}
-use Rattle.command_words.specs.declared.job.Job.TheVariants.{Synth, Check, Run}
-use Rattle.command_words.specs.declared.job.SynthJob.{SynthJob}
+use Rattle.command_words.specs.declared.job.Job.TheVariants.{Synth, Check, Run, Gen}
+use Rattle.command_words.specs.declared.job.GenJob.{GenJob}
 use Rattle.command_words.specs.Words.{JobOf, names_of, usage_text}
 use Rattle.input_reading.specs.Asked.{AsksInTurn}
 use Rattle.input_reading.specs.declared.fault.Fault.{Fault}
@@ -59,9 +59,26 @@ IsSpent SpentExpansions = Unit {0}
 IsSpent SpentRun = Unit {0}
 IsSpent _ = ⊥
 
+-- the job is a search: over the instances of files, or over a family
+abbrev pub IsSearch : Job → Type 0
+IsSearch (Synth job) = Unit {0}
+IsSearch (Check job) = ⊥
+IsSearch (Run job) = ⊥
+IsSearch (Gen job) = Unit {0}
+
 -- the words are those of a search
 abbrev pub AreSearch : List (List ℕ) → Type 0
-AreSearch words = (job : SynthJob) × JobOf words (Synth job)
+AreSearch words = (job : Job) × JobOf words job × IsSearch job
+
+-- the words are those of a search over a family, which reads no file
+abbrev pub AreOfFamily : List (List ℕ) → Type 0
+AreOfFamily words = (job : GenJob) × JobOf words (Gen job)
+
+-- the status tells of a file: that it is absent, too long or refused, or that it could not be read
+abbrev pub TellsOfFile : Status → Type 0
+TellsOfFile Input = Unit {0}
+TellsOfFile ReadFault = Unit {0}
+TellsOfFile _ = ⊥
 
 -- what happens where the words are no job, whatever the shelf tells: usage is answered, but for a write fault or want of memory
 abbrev pub AnswersUsage : Status → Option (List ℕ) → Option (List ℕ) → Type 0
@@ -87,6 +104,7 @@ abbrev pub files_of : Job → List (List ℕ)
 files_of (Synth job) = names_of job.inputs
 files_of (Check job) = names_of job.inputs ++ job.answer ∷ []
 files_of (Run job) = names_of job.inputs ++ job.program ∷ []
+files_of (Gen job) = []
 
 -- the files that the words' job names are asked for in turn, none of them again after a later one, and no other; and none at all
 -- where the words are no job

@@ -15,16 +15,19 @@ use Rattle.refutation_tree.specs.Covers.{nobody}
 use Rattle.refutation_tree.specs.Accepted.{IsAccepted}
 use Rattle.answer_writer.specs.Document.{document}
 use Rattle.answer_reader.specs.Reading.{IsDocument}
-use Rattle.synthesis.specs.declared.bounds.Bounds.{Bounds}
+use Rattle.search_bounds.specs.declared.bounds.Bounds.{Bounds}
 use Rattle.synthesis.specs.BestFirst.{IsBestFirstAnswer}
+use Rattle.family_gen.specs.Families.{family_name, family_texts, pointers_of, bounds_of}
+use Rattle.summary_writer.specs.Summary.{summary}
 use Rattle.command_words.specs.declared.job.Job.{Job}
-use Rattle.command_words.specs.declared.job.Job.TheVariants.{Synth, Check, Run}
+use Rattle.command_words.specs.declared.job.Job.TheVariants.{Synth, Check, Run, Gen}
 use Rattle.command_words.specs.declared.job.SynthJob.{SynthJob}
 use Rattle.command_words.specs.declared.job.CheckJob.{CheckJob}
 use Rattle.command_words.specs.declared.job.RunJob.{RunJob}
+use Rattle.command_words.specs.declared.job.GenJob.{GenJob}
 use Rattle.command_words.specs.Words.{JobOf, usage_text}
 use Rattle.input_reading.specs.Steps.{◌>>=◌}
-use Rattle.input_reading.specs.Inputs.{file_due, machine_due, program_due}
+use Rattle.input_reading.specs.Inputs.{file_due, machine_due, machine_of_texts_due, program_due}
 use Rattle.bfgp_jobs.specs.declared.check.TheConstants.{MAX_DOCUMENT_BYTES}
 use Rattle.bfgp_jobs.specs.declared.status.Status.{Status}
 use Rattle.bfgp_jobs.specs.declared.status.Status.TheVariants.{Done, No, Usage, Input, SpentExpansions, SpentRun}
@@ -89,11 +92,23 @@ run_due files job = do
   program ← program_due machine job.program bytes
   report_due machine job.run program
 
+-- the reply is the summary of the search's answer over a family
+abbrev pub summary_due : GenJob → MachineParts → Result Reply (List ℕ) → Type 0
+summary_due job machine (Ok reply) = (answer : Answer) × IsBestFirstAnswer (meaning_of machine) (bounds_of job.family) answer × (reply ≡ record { status = status_of answer.outcome; text = summary (operation_texts machine.task machine.pointers) job.family job.number answer })
+summary_due job machine (Err line) = ⊥
+
+-- `gen`: the machine over the family's texts, and then the search within the family's bounds
+abbrev pub gen_due : GenJob → Result Reply (List ℕ) → Type 0
+gen_due job = do
+  machine ← machine_of_texts_due (family_name job.family) (family_texts job.family job.number).domain (family_texts job.family job.number).problems (pointers_of job.family)
+  summary_due job machine
+
 -- what is due for a job, by its command
 abbrev pub job_due : Files → Job → Result Reply (List ℕ) → Type 0
 job_due files (Synth job) = synth_due files job
 job_due files (Check job) = check_due files job
 job_due files (Run job) = run_due files job
+job_due files (Gen job) = gen_due job
 
 abbrev pub usage_reply : Reply
 usage_reply = record { status = Usage; text = usage_text }

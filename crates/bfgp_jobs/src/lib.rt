@@ -6,11 +6,13 @@
 #![tactic(auto)]
 
 mod check;
+mod family_search;
 mod laws;
 mod process;
 mod reply;
 mod replying;
 mod run;
+mod searching;
 mod status;
 mod synth;
 mod top;

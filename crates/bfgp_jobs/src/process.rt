@@ -3,8 +3,8 @@ ghost use Rattle.std.specs.Process.{exit_status};
 ghost use Rattle.bfgp_outside.specs.Shelf.{Knowing, GoesOn};
 ghost use Rattle.bfgp_outside.specs.Sink.{Keeps};
 ghost use Rattle.bfgp_jobs.specs.Due.{Due};
-ghost use Rattle.bfgp_jobs.specs.Answers.{Answers, UsageIsExact};
-ghost use Rattle.bfgp_jobs.specs.Headline.{Headline};
+ghost use Rattle.bfgp_jobs.specs.Answers.{Answers, AreOfFamily, UsageIsExact};
+ghost use Rattle.bfgp_jobs.specs.Headline.{Headline, StandsWithoutFiles};
 ghost use Rattle.bfgp_jobs.specs.Acceptance.{CheckAccepts};
 ghost use Rattle.bfgp_jobs.specs.Process.{EndsWith, number_without_words};
 
@@ -32,6 +32,8 @@ pub fn run_process<S: Shelf, K: Sink>(
         CheckAccepts (map string_bytes words.items) files status (K.written out.old) (K.written out.new)))) }
     ensures due { IfOk words (λ words. EndsWith result (λ status. Knowing (S.files shelf.old) (λ files.
         Answers (Due (map string_bytes words.items) files) status (K.written out.old) (K.written out.new)))) }
+    ensures family { IfOk words (λ words. AreOfFamily (map string_bytes words.items) → EndsWith result (λ status.
+        StandsWithoutFiles (map string_bytes words.items) status (K.written out.old) (K.written out.new))) }
     ensures usage { IfOk words (λ words. EndsWith result (λ status.
         UsageIsExact (map string_bytes words.items) status (K.written out.old) (K.written out.new))) }
     ensures no_words { IfErr words (λ error. exit_status result ≡ number_without_words error) }

@@ -1,15 +1,18 @@
 ghost use Rattle.std.specs.Prelude.{◌≡◌, length};
 ghost use Rattle.bfgp_outside.specs.Sink.{Puts};
 ghost use Rattle.answer_writer.specs.Document.{document};
+ghost use Rattle.family_gen.specs.Families.{sizes_of};
+ghost use Rattle.summary_writer.specs.Summary.{summary};
 ghost use Rattle.refutation_tree.specs.Grammar.{IsGrammatical};
+ghost use Rattle.bfgp_jobs.specs.Due.{status_of};
 
+use crate::searching::Found;
 use crate::status::Status;
 use answer_writer::write_answer;
 use bfgp_outside::{Sink, SinkFailed, put_all};
 use flag_rules::Text;
-use program_text::Names;
-use refutation_tree::Answer;
 use std::marker::Model;
+use summary_writer::{Sample, write_summary};
 
 /// What is to be written, and the status to end with. Contracts see the status and the text.
 #[derive(Drop)]
@@ -23,8 +26,10 @@ pub(crate) struct Reply {
 enum Body {
     /// It is held.
     Text(Text),
-    /// It is the document of an answer over operations of these names, which is put without being held.
-    Document(Answer, Names),
+    /// It is the document of what a search found, which is put without being held.
+    Document(Found),
+    /// It is the summary of what a search over a sample found, which is put without being held.
+    Summary(Sample, Found),
 }
 
 impl Model for Reply {
@@ -49,14 +54,29 @@ impl Reply {
         }
     }
 
-    /// The reply with the document of an answer over operations of these names.
-    pub(crate) fn of_answer(status: Status, answer: Answer, names: Names) -> Reply
-        requires { IsGrammatical (length names) answer }
-        ensures { result ≡ record { status = status; text = document names answer } }
+    /// The reply with the document of what a search found.
+    pub(crate) fn of_document(found: Found) -> Reply
+        requires { IsGrammatical (length found.names) found.answer }
+        ensures { result ≡ record { status = status_of found.answer.outcome; text = document found.names found.answer } }
     {
         Reply {
-            status,
-            body: Body::Document(answer, names),
+            status: found.status(),
+            body: Body::Document(found),
+        }
+    }
+
+    /// The reply with the summary of what a search over a sample found.
+    pub(crate) fn of_summary(sample: Sample, found: Found) -> Reply
+        requires sizes { sample.sizes ≡ sizes_of sample.family sample.number }
+        requires answer { IsGrammatical (length found.names) found.answer }
+        ensures { result ≡ record {
+          status = status_of found.answer.outcome;
+          text = summary found.names sample.family sample.number found.answer;
+        } }
+    {
+        Reply {
+            status: found.status(),
+            body: Body::Summary(sample, found),
         }
     }
 
@@ -73,7 +93,10 @@ impl Reply {
     {
         match &self.body {
             Body::Text(text) => put_all(sink, text.as_slice()),
-            Body::Document(answer, names) => write_answer(sink, answer, names),
+            Body::Document(found) => write_answer(sink, &found.answer, &found.names),
+            Body::Summary(sample, found) => {
+                write_summary(sink, sample, &found.answer, &found.names)
+            }
         }
     }
 }

@@ -6,10 +6,11 @@ ghost use Rattle.input_reading.specs.Asked.{AsksInTurn};
 ghost use Rattle.input_reading.specs.Causes.{TellsFault, HaltCause, is_read_fault};
 ghost use Rattle.input_reading.specs.Steps.{Gives};
 ghost use Rattle.bfgp_jobs.specs.Due.{Due, job_due, usage_reply};
-ghost use Rattle.bfgp_jobs.specs.Answers.{AreSearch, AsksForNamed, IsAnswerStatus, IsSpent, files_of};
-ghost use Rattle.bfgp_jobs.specs.Inner.Replying.{told, lacks_file, IsSearch, IsReplyStatus, RepliesUsage};
+ghost use Rattle.bfgp_jobs.specs.Answers.{AreOfFamily, AreSearch, AsksForNamed, IsAnswerStatus, IsSearch, IsSpent, files_of};
+ghost use Rattle.bfgp_jobs.specs.Inner.Replying.{told, lacks_file, ComesWithoutFiles, IsReplyStatus, RepliesUsage, RepliesWithoutFiles};
 
 use crate::check::check;
+use crate::family_search::search_family;
 use crate::reply::Reply;
 use crate::run::run;
 use crate::status::Status;
@@ -56,6 +57,8 @@ pub(crate) fn reply_to_words<S: Shelf>(
     ensures reads { RoseIf (lacks_file result) (S.faults shelf.old) (S.faults shelf.new) }
     ensures goes_on { GoesOn S.files S.faults S.absences shelf.old shelf.new }
     ensures asks { AsksForNamed (map string_bytes words.now) (S.asked shelf.old) (S.asked shelf.new) }
+    ensures family { AreOfFamily (map string_bytes words.now) →
+        RepliesWithoutFiles (map string_bytes words.now) result }
 {
     match job_of(alloc, words) {
         Ok(job) => tell(job_outcome(alloc, shelf, &job)),
@@ -85,11 +88,13 @@ fn job_outcome<S: Shelf>(alloc: Global, shelf: &mut S, job: &Job) -> Result<Repl
     ensures reads { RoseIf (is_read_fault result) (S.faults shelf.old) (S.faults shelf.new) }
     ensures goes_on { GoesOn S.files S.faults S.absences shelf.old shelf.new }
     ensures asks { AsksInTurn (S.asked shelf.old) (S.asked shelf.new) (files_of job.now) }
+    ensures family { ComesWithoutFiles job.now result }
 {
     match job {
         Job::Synth(job) => synth(alloc, shelf, job),
         Job::Check(job) => check(alloc, shelf, job),
         Job::Run(job) => run(alloc, shelf, job),
+        Job::Gen(job) => search_family(alloc, job),
     }
 }
 

@@ -1,7 +1,7 @@
 ghost use Rattle.std.specs.Prelude.{◌≡◌, ◌≤◌, [], ◌∷◌, ◌++◌, length, Ok, IfOk, IfErr};
 ghost use Rattle.bfgp_outside.specs.Causes.{RoseIf};
 ghost use Rattle.bfgp_outside.specs.Shelf.{Knowing, GoesOn};
-ghost use Rattle.interpreter.specs.declared.plain_run.TheConstants.{MAX_RUN};
+ghost use Rattle.program_model.specs.declared.standing.TheConstants.{MAX_RUN};
 ghost use Rattle.program_model.specs.Program.{IsProgram};
 ghost use Rattle.program_text.specs.Names.{AreNames};
 ghost use Rattle.pointer_machine.specs.Machine.{meaning_of};

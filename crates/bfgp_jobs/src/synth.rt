@@ -1,29 +1,27 @@
-ghost use Rattle.std.specs.Prelude.{◌≡◌, length, Ok, IfOk, IfErr};
+ghost use Rattle.std.specs.Prelude.{length, Ok, IfOk, IfErr};
 ghost use Rattle.bfgp_outside.specs.Causes.{RoseIf};
 ghost use Rattle.bfgp_outside.specs.Shelf.{Knowing, GoesOn};
 ghost use Rattle.program_model.specs.declared.machine.TheConstants.{MAX_INSTANCES, MAX_POINTERS};
 ghost use Rattle.program_text.specs.Names.{AreNames};
 ghost use Rattle.pointer_machine.specs.Texts.{operation_texts};
 ghost use Rattle.refutation_tree.specs.Grammar.{IsFromOneTo};
-ghost use Rattle.synthesis.specs.BestFirst.{AreWithinLimits};
+ghost use Rattle.search_bounds.specs.Limits.{AreWithinLimits};
 ghost use Rattle.command_words.specs.Words.{IsSynthJob, names_of};
 ghost use Rattle.input_reading.specs.Asked.{AsksInTurn};
 ghost use Rattle.input_reading.specs.Steps.{Gives};
-ghost use Rattle.bfgp_jobs.specs.Due.{synth_due, answer_due, status_of};
+ghost use Rattle.bfgp_jobs.specs.Due.{synth_due, answer_due};
 ghost use Rattle.input_reading.specs.Causes.{HaltCause, is_read_fault};
 ghost use Rattle.bfgp_jobs.specs.Answers.{IsAnswerStatus};
 
 use crate::reply::Reply;
-use crate::status::Status;
+use crate::searching::search_over;
 use bfgp_outside::Shelf;
 use command_words::SynthJob;
 use flag_rules::OutOfMemory;
 use input_reading::{Halt, machine_for};
-use pointer_machine::{Meter, PointerMachine};
-use program_text::Names;
-use refutation_tree::Outcome;
+use pointer_machine::PointerMachine;
+use search_bounds::Bounds;
 use std::alloc::Global;
-use synthesis::{Bounds, search};
 
 /// Searches within the bounds of a job for a smallest program that solves its instances.
 pub(crate) fn synth<S: Shelf>(alloc: Global, shelf: &mut S, job: &SynthJob) -> Result<Reply, Halt>
@@ -48,19 +46,5 @@ fn answer(alloc: Global, machine: &PointerMachine, bounds: &Bounds) -> Result<Re
     ensures due { IfOk result (λ reply. answer_due machine.now bounds.now (Ok reply)) }
     ensures verdict { IfOk result (λ reply. IsAnswerStatus reply.status) }
 {
-    let answer = search(alloc, machine, bounds, &mut Meter::zero())?;
-    let texts = machine.op_texts(alloc)?;
-    let names = Names::build(alloc, texts)?;
-    Ok(Reply::of_answer(status_of(answer.outcome), answer, names))
-}
-
-fn status_of(outcome: Outcome) -> Status
-    ensures { result ≡ status_of outcome }
-{
-    match outcome {
-        Outcome::Program { .. } => Status::Done,
-        Outcome::Nothing => Status::No,
-        Outcome::SpentExpansions { .. } => Status::SpentExpansions,
-        Outcome::SpentRun { .. } => Status::SpentRun,
-    }
+    Ok(Reply::of_document(search_over(alloc, machine, bounds)?))
 }

@@ -2,8 +2,8 @@ ghost use Rattle.std.specs.Prelude.{◌≡◌, ◌≢◌, ◌≤◌, map, string
 ghost use Rattle.bfgp_outside.specs.Causes.{Rose, RoseIf};
 ghost use Rattle.bfgp_outside.specs.Shelf.{Knowing, GoesOn};
 ghost use Rattle.bfgp_jobs.specs.Due.{Due};
-ghost use Rattle.bfgp_jobs.specs.Answers.{Answers, AreSearch, AsksForNamed, IsSilent, IsSpent, UsageIsExact, InputCause};
-ghost use Rattle.bfgp_jobs.specs.Headline.{Headline};
+ghost use Rattle.bfgp_jobs.specs.Answers.{Answers, AreOfFamily, AreSearch, AsksForNamed, IsSilent, IsSpent, UsageIsExact, InputCause};
+ghost use Rattle.bfgp_jobs.specs.Headline.{Headline, StandsWithoutFiles};
 ghost use Rattle.bfgp_jobs.specs.Acceptance.{CheckAccepts};
 ghost use Rattle.bfgp_jobs.specs.Inner.Replying.{is_write_fault, IsReplyStatus, Writes};
 
@@ -21,10 +21,11 @@ pub fn bfgp<S: Shelf, K: Sink>(
     shelf: &mut S,
     out: &mut K,
 ) -> Status
-    // `synth`: with status 0 the bytes that were written say one answer, whose program solves every instance that the words
-    // pose, and none with fewer lines does; with status 1 they say that there is none, and no program of at most as many lines
-    // as were asked for does; with status 4 they say at which size the budget of splits was spent, with status 5 at which size a
-    // run made as many steps as it may, and in both no program with fewer lines than that size does. No other command ends so.
+    // `synth` and `gen`: with status 0 the bytes that were written say one answer, or its summary, whose program solves every
+    // instance that the words pose, and none with fewer lines does; with status 1 they say that there is none, and no program of at
+    // most as many lines as were asked for does; with status 4 they say at which size the budget of splits was spent, with status 5
+    // at which size a run made as many steps as it may, and in both no program with fewer lines than that size does. No other
+    // command ends so.
     // `check`: with status 0 the given document is accepted, and what it says of its program, or that there is none, is so; with
     // status 1 it is not accepted. `run`: with status 0 the given program solves every instance within the limit of steps, and
     // with status 1 it does not solve some instance within it.
@@ -38,6 +39,10 @@ pub fn bfgp<S: Shelf, K: Sink>(
     // Status and appended bytes are due; with a write fault a front of those bytes.
     ensures due { Knowing (S.files shelf.old) (λ files.
         Answers (Due (map string_bytes words.now) files) result (K.written out.old) (K.written out.new)) }
+
+    // `gen`: it reads no file, so all of this stands over every shelf.
+    ensures family { AreOfFamily (map string_bytes words.now) →
+        StandsWithoutFiles (map string_bytes words.now) result (K.written out.old) (K.written out.new) }
 
     // What stands over every shelf and sink.
     ensures usage { UsageIsExact (map string_bytes words.now) result (K.written out.old) (K.written out.new) }

@@ -15,6 +15,8 @@ mod checks;
 #[cfg(test)]
 mod documents;
 #[cfg(test)]
+mod families;
+#[cfg(test)]
 mod faults;
 #[cfg(test)]
 mod files;
@@ -40,5 +42,7 @@ mod reports;
 mod searches;
 #[cfg(test)]
 mod single_changes;
+#[cfg(test)]
+mod turns;
 #[cfg(test)]
 mod words;

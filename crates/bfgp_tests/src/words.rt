@@ -1,158 +1,76 @@
+//! Words in each of the forms that they may have, and words that are no job.
+
 use crate::calls::{check, shelf_of};
-use crate::given::USAGE;
-use std::alloc::Global;
-use std::process::Abort;
+use crate::given::{LIT_IN_TWO_LINES, USAGE};
 use std::test::Fail;
 
 // The files that the words name.
 const NAMED: &str = "\
 d: (define (domain lights) (:predicates (lit ?x)) (:action light :parameters (?x) :effect (lit ?x)))
-i: (define (problem one) (:domain lights) (:objects a) (:init (lit a)) (:goal (lit a)))
+i: (define (problem one) (:domain lights) (:objects a) (:goal (lit a)))
 p: act light p0 / end
-a: bfgp answer 1 / pointers 1 / lines 1 / instances 1 / verdict program 1 / tree 1 / g / program / end / ends 0 0 / end of answer
+a: bfgp answer 1 / pointers 1 / lines 1 / instances 1 / verdict none / tree 1 / f 0 0 / end of answer
 ";
 
-// The first line has no words.
+// The exit status and the words, and what is written. The words of a command are one job, however their options stand.
+const ONE_JOB_EACH: &[(&[&str], &str)] = &[
+    (
+        &[
+            "0 synth --pointers 1 --lines 3 d i",
+            "0 synth --lines=3 --pointers 1 d i",
+            "0 synth --order=e5,e1 --lines 3 --run=100000 --pointers=1 --budget 10000 d i",
+        ],
+        LIT_IN_TWO_LINES,
+    ),
+    (
+        &[
+            "0 check --pointers 1 --lines 1 --answer a d i",
+            "0 check --answer=a --lines 1 --pointers=1 d i",
+        ],
+        "accepted\n",
+    ),
+    (
+        &[
+            "0 run --pointers 1 --program p --run 4 d i",
+            "0 run --run=4 --program=p --pointers=1 d i",
+        ],
+        "instance 0 solved 1\nsolved 1 of 1\n",
+    ),
+];
+
+#[test]
+fn options_in_any_order_and_form(rt: HostRuntime) -> Result<(), Fail> {
+    let mut shelf = shelf_of(rt.alloc(), NAMED)?;
+    for (calls, written) in ONE_JOB_EACH {
+        for call in *calls {
+            let (status, words) = call.split_once(' ').unwrap_or((call, ""));
+            check(&rt, rt.alloc(), &mut shelf, status, words, written)?;
+        }
+    }
+    Ok(())
+}
+
+// The first line has no words. What words are no job is tested of their reading alone; these show that nothing else is done.
 const NO_JOB: &str = "\n\
-synth --pointers 1 --lines 1 d
-synth --lines 1 --pointers 1 d i
+synth d i --pointers 1 --lines 5
 synth --pointers 5 --lines 1 d i
-synth --pointers 0 --lines 1 d i
 synth --pointers 1 --lines 17 d i
-synth --pointers 1 --lines 0 d i
-synth --pointers 1 --lines 01 d i
-synth --pointers 1 --lines 1  i
-synth --pointers 1 --lines 1 d -i
-synth --pointers 1 --lines 1 d i -i
+synth --pointers 0 --lines 1 d i
+synth --pointers 1 --lines 1 --order e5,e9 d i
+synth --pointers 1 --lines 1 --order e1,e1 d i
 synth --pointers 1 --lines 1 d i i i i i i i i i i i i i i i i i i i i i i i i i i i i i i i i i
-check --pointers 1 --lines 1 d i
+check --pointers 1 --lines 1 d i --answer a
+run --pointers 1 --program p --program p d i
+gen lights 01
+gen lights 100000000
 --help
 ";
 
 #[test]
 fn words_that_are_no_job(rt: HostRuntime) -> Result<(), Fail> {
-    check_usage(&rt, rt.alloc(), NO_JOB)
-}
-
-// Options out of their ranges, orders that are none, options out of their places or repeated, and options without a value or
-// without names behind them.
-const NO_SEARCH: &str = "\
-synth --pointers 1 --lines 1 --budget 0 d i
-synth --pointers 1 --lines 1 --budget 100001 d i
-synth --pointers 1 --lines 1 --budget 4294967297 d i
-synth --pointers 1 --lines 1 --budget 01 d i
-synth --pointers 1 --lines 1 --budget +1 d i
-synth --pointers 1 --lines 1 --budget 1x d i
-synth --pointers 1 --lines 1 --budget  d i
-synth --pointers 1 --lines 1 --run 3 d i
-synth --pointers 1 --lines 1 --run 0 d i
-synth --pointers 1 --lines 1 --run 10000001 d i
-synth --pointers 1 --lines 1 --run 04 d i
-synth --pointers 1 --lines 1 --run 99999999999999999999 d i
-synth --pointers 1 --lines 1 --run  d i
-synth --pointers 1 --lines 1 --order e5,e9 d i
-synth --pointers 1 --lines 1 --order e1,e1 d i
-synth --pointers 1 --lines 1 --order e1,,e2 d i
-synth --pointers 1 --lines 1 --order ,e1 d i
-synth --pointers 1 --lines 1 --order e1, d i
-synth --pointers 1 --lines 1 --order E1 d i
-synth --pointers 1 --lines 1 --order e1,e2,e3,e4,e5,e6,e1 d i
-synth --pointers 1 --lines 1 --order  d i
-synth --budget 1 --pointers 1 --lines 1 d i
-synth --pointers 1 --budget 1 --lines 1 d i
-synth --pointers 1 --lines 1 --run 4 --budget 1 d i
-synth --pointers 1 --lines 1 --order e5 --run 4 d i
-synth --pointers 1 --lines 1 --order e5 --budget 1 d i
-synth --pointers 1 --lines 1 d i --budget 1
-synth --pointers 1 --lines 1 d --order e5 i
-synth --pointers 1 --lines 1 --budget 1 --budget 1 d i
-synth --pointers 1 --lines 1 --run 4 --run 4 d i
-synth --pointers 1 --lines 1 --order e5 --order e5 d i
-synth --pointers 1 --lines 1 --budget 1 --run 4 --budget 1 d i
-synth --pointers 1 --lines 1 --answer a d i
-synth --pointers 1 --lines 1 --budget
-synth --pointers 1 --lines 1 --budget 1
-synth --pointers 1 --lines 1 --budget 1 d
-synth --pointers 1 --lines 1 --budget d i
-synth --pointers 1 --lines 1 --run 4 d
-synth --pointers 1 --lines 1 --order e5 d
-synth --pointers 1 --lines 1 --order d i
-synth --pointers 1 --lines 1 --order e5 d i i i i i i i i i i i i i i i i i i i i i i i i i i i i i i i i i
-synth --pointers 1 --lines 1 --order e5 -d i
-";
-
-#[test]
-fn words_that_are_no_search(rt: HostRuntime) -> Result<(), Fail> {
-    check_usage(&rt, rt.alloc(), NO_SEARCH)
-}
-
-const NO_RUN: &str = "\
-run
-run --pointers 1 --program p d
-run --pointers 1 --program p --run 4 d
-run --program p --pointers 1 d i
-run --pointers 1 --run 4 --program p d i
-run --pointers 1 --program p d i --run 4
-run --pointers 5 --program p d i
-run --pointers 0 --program p d i
-run --pointers 1 --program -p d i
-run --pointers 1 --program  d i
-run --pointers 1 --program p --run
-run --pointers 1 --program p --run d i
-run --pointers 1 --program p --run  d i
-run --pointers 1 --program p --run 3 d i
-run --pointers 1 --program p --run 10000001 d i
-run --pointers 1 --program p --run 04 d i
-run --pointers 1 --program p --run +4 d i
-run --pointers 1 --program p --run 4x d i
-run --pointers 1 --program p --run 99999999999999999999 d i
-run --pointers 1 --program p --budget 1 d i
-run --pointers 1 --program p --order e5 d i
-run --pointers 1 --program p d i -i
-run --pointers 1 --program p d i i i i i i i i i i i i i i i i i i i i i i i i i i i i i i i i i
-";
-
-#[test]
-fn words_that_are_no_run(rt: HostRuntime) -> Result<(), Fail> {
-    check_usage(&rt, rt.alloc(), NO_RUN)
-}
-
-const NO_CHECK: &str = "\
-check
-check --pointers 1 --lines 1 --answer a d
-check --pointers 1 --lines 1 --answer d
-check --pointers 1 --lines 1 --answer
-check --pointers 1 --lines 1 d i
-check --lines 1 --pointers 1 --answer a d i
-check --answer a --pointers 1 --lines 1 d i
-check --pointers 1 --answer a --lines 1 d i
-check --pointers 1 --lines 1 d i --answer a
-check --pointers 1 --lines 0 --answer a d i
-check --pointers 1 --lines 17 --answer a d i
-check --pointers 1 --lines 01 --answer a d i
-check --pointers 0 --lines 1 --answer a d i
-check --pointers 5 --lines 1 --answer a d i
-check --pointers 1 --lines 1 --answer -a d i
-check --pointers 1 --lines 1 --answer  d i
-check --pointers 1 --lines 1 --answer a d -i
-check --pointers 1 --lines 1 --answer a  i
-check --pointers 1 --lines 1 --answer a --run 4 d i
-check --pointers 1 --lines 1 --answer a --budget 1 d i
-check --pointers 1 --lines 1 --answer a --order e5 d i
-check --pointers 1 --lines 1 --answer a --answer a d i
-check --pointers 1 --lines 1 --answer a d i i i i i i i i i i i i i i i i i i i i i i i i i i i i i i i i i
-";
-
-#[test]
-fn words_that_are_no_check(rt: HostRuntime) -> Result<(), Fail> {
-    check_usage(&rt, rt.alloc(), NO_CHECK)
-}
-
-// Checks that each line gets the usage text, whatever files there are.
-fn check_usage<R: Abort>(rt: &R, alloc: Global, lines: &str) -> Result<(), Fail> {
-    let mut shelf = shelf_of(alloc, NAMED)?;
-    for words in lines.lines() {
-        check(rt, alloc, &mut shelf, "2", words, USAGE)?;
+    let mut shelf = shelf_of(rt.alloc(), NAMED)?;
+    for words in NO_JOB.lines() {
+        check(&rt, rt.alloc(), &mut shelf, "2", words, USAGE)?;
     }
     Ok(())
 }

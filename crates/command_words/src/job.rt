@@ -1,5 +1,6 @@
+use family_gen::Family;
 use flag_rules::{List, Text};
-use synthesis::Bounds;
+use search_bounds::Bounds;
 
 /// The least budget of splits that `synth` takes.
 pub const LEAST_BUDGET: u32 = 1;
@@ -22,6 +23,8 @@ pub enum Job {
     Check(CheckJob),
     /// To run a program on all instances.
     Run(RunJob),
+    /// To search over a family of instances.
+    Gen(GenJob),
 }
 
 /// A search for a smallest program.
@@ -57,6 +60,14 @@ pub struct RunJob {
     /// The name of the program file.
     pub program: Text,
     pub inputs: Inputs,
+}
+
+/// A search over a family of instances that is made from a number.
+#[derive(Debug, Drop)]
+pub struct GenJob {
+    pub family: Family,
+    /// The number that it is made from, at most `MAX_NUMBER`.
+    pub number: u32,
 }
 
 /// The names of the files that pose the instances.

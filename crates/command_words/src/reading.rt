@@ -1,16 +1,26 @@
-ghost use Rattle.std.specs.Prelude.{◌≡◌, ◌↔◌, ◌<◌, ◌≤◌, IsTrue, IfOk, All, length, map, string_bytes};
-ghost use Rattle.program_model.specs.declared.machine.TheConstants.{MAX_INSTANCES};
-ghost use Rattle.command_words.specs.Words.{IsReading, JobOf, SynthJobOf, CheckJobOf, RunJobOf, is_file_name};
-ghost use Rattle.command_words.specs.Inner.Parts.{AreInputsOf};
+ghost use Rattle.std.specs.Prelude.{◌≡◌, ◌≢◌, ◌<◌, length, map, string_bytes, IfSome, IfNone};
+ghost use Rattle.family_gen.specs.declared.kinds.Family.{Family as FamilyValue};
+ghost use Rattle.family_gen.specs.Families.{family_name};
+ghost use Rattle.command_words.specs.declared.job.SynthJob.{SynthJob as SynthJobValue};
+ghost use Rattle.command_words.specs.declared.job.CheckJob.{CheckJob as CheckJobValue};
+ghost use Rattle.command_words.specs.declared.job.RunJob.{RunJob as RunJobValue};
+ghost use Rattle.command_words.specs.declared.job.GenJob.{GenJob as GenJobValue};
+ghost use Rattle.command_words.specs.declared.matching.Command.TheVariants.{Synth, Check, Run, Gen};
+ghost use Rattle.command_words.specs.Words.{IsReading, JobOf, SynthJobOf, CheckJobOf, RunJobOf, GenJobOf, names_of};
+ghost use Rattle.command_words.specs.Inner.Matching.{IsMatched};
+ghost use Rattle.command_words.specs.Inner.Values.{AreFileNames, AreSynthValues, AreCheckValues, AreRunValues, AreGenValues};
 
-use crate::job::{CheckJob, Inputs, Job, RunJob, SynthJob};
-use crate::number::count_of;
-use crate::option::{budget_option, order_option, run_option};
+use crate::form::has_form;
+use crate::job::{CheckJob, GenJob, Inputs, Job, RunJob, SynthJob};
+use crate::matching::{Command, Matched, match_words};
+use crate::number::number_of;
 use crate::refusal::JobRefusal;
-use flag_rules::{List, OutOfMemory, Text};
-use program_model::{MAX_INSTANCES, MAX_LINES, MAX_POINTERS};
+use crate::value::{budget_in, count_in, order_in, run_in};
+use family_gen::{Family, MAX_NUMBER};
+use flag_rules::{List, Text};
+use program_model::{MAX_LINES, MAX_POINTERS};
+use search_bounds::Bounds;
 use std::alloc::Global;
-use synthesis::Bounds;
 
 /// Reads the words of a command, without the program's own name.
 pub fn job_of(alloc: Global, words: &[String]) -> Result<Job, JobRefusal>
@@ -25,6 +35,8 @@ pub fn job_of(alloc: Global, words: &[String]) -> Result<Job, JobRefusal>
         Ok(Job::Check(check_job_of(alloc, words)?))
     } else if command.as_str() == "run" {
         Ok(Job::Run(run_job_of(alloc, words)?))
+    } else if command.as_str() == "gen" {
+        Ok(Job::Gen(gen_job_of(alloc, words)?))
     } else {
         Err(JobRefusal::Usage)
     }
@@ -34,29 +46,52 @@ pub fn job_of(alloc: Global, words: &[String]) -> Result<Job, JobRefusal>
 fn synth_job_of(alloc: Global, words: &[String]) -> Result<SynthJob, JobRefusal>
     ensures { IsReading (SynthJobOf (map string_bytes words.now)) result }
 {
-    let [pointers_option, pointers, lines_option, lines, others @ ..] = words else {
-        return Err(JobRefusal::Usage);
-    };
-    if pointers_option.as_str() != "--pointers" || lines_option.as_str() != "--lines" {
+    synth_job(matched_in(alloc, Command::Synth, words)?).ok_or(JobRefusal::Usage)
+}
+
+// Reads the words after `check`.
+fn check_job_of(alloc: Global, words: &[String]) -> Result<CheckJob, JobRefusal>
+    ensures { IsReading (CheckJobOf (map string_bytes words.now)) result }
+{
+    check_job(matched_in(alloc, Command::Check, words)?).ok_or(JobRefusal::Usage)
+}
+
+// Reads the words after `run`.
+fn run_job_of(alloc: Global, words: &[String]) -> Result<RunJob, JobRefusal>
+    ensures { IsReading (RunJobOf (map string_bytes words.now)) result }
+{
+    run_job(matched_in(alloc, Command::Run, words)?).ok_or(JobRefusal::Usage)
+}
+
+// Reads the words after `gen`.
+fn gen_job_of(alloc: Global, words: &[String]) -> Result<GenJob, JobRefusal>
+    ensures { IsReading (GenJobOf (map string_bytes words.now)) result }
+{
+    gen_job(matched_in(alloc, Command::Gen, words)?).ok_or(JobRefusal::Usage)
+}
+
+// The values of the options, and the names, in the words after a command.
+fn matched_in(alloc: Global, command: Command, words: &[String]) -> Result<Matched, JobRefusal>
+    ensures { IsReading (IsMatched command (map string_bytes words.now)) result }
+{
+    if !has_form(alloc, command, words)? {
         return Err(JobRefusal::Usage);
     }
-    let Some(pointers) = count_of(pointers, MAX_POINTERS) else {
-        return Err(JobRefusal::Usage);
-    };
-    let Some(lines) = count_of(lines, MAX_LINES) else {
-        return Err(JobRefusal::Usage);
-    };
-    let Some((budget, others)) = budget_option(others) else {
-        return Err(JobRefusal::Usage);
-    };
-    let Some((run, others)) = run_option(others) else {
-        return Err(JobRefusal::Usage);
-    };
-    let Some((order, inputs)) = order_option(others) else {
-        return Err(JobRefusal::Usage);
-    };
-    let inputs = inputs_of(alloc, inputs)?;
-    Ok(SynthJob {
+    Ok(match_words(alloc, command, words)?)
+}
+
+// The search that the values spell, if they spell one.
+fn synth_job(matched: Matched) -> Option<SynthJob>
+    requires { AreFileNames matched }
+    ensures some { IfSome result (AreSynthValues matched) }
+    ensures none { IfNone result ((job : SynthJobValue) → AreSynthValues matched job → ⊥) }
+{
+    let pointers = count_in(&matched.pointers, MAX_POINTERS)?;
+    let lines = count_in(&matched.lines, MAX_LINES)?;
+    let budget = budget_in(&matched.budget)?;
+    let run = run_in(&matched.run)?;
+    let order = order_in(&matched.order)?;
+    Some(SynthJob {
         pointers,
         bounds: Bounds {
             lines,
@@ -64,126 +99,72 @@ fn synth_job_of(alloc: Global, words: &[String]) -> Result<SynthJob, JobRefusal>
             run,
             order,
         },
-        inputs,
+        inputs: inputs_of(matched.names),
     })
 }
 
-// Reads the words after `check`.
-fn check_job_of(alloc: Global, words: &[String]) -> Result<CheckJob, JobRefusal>
-    ensures { IsReading (CheckJobOf (map string_bytes words.now)) result }
+// The check that the values spell, if they spell one.
+fn check_job(matched: Matched) -> Option<CheckJob>
+    requires { AreFileNames matched }
+    ensures some { IfSome result (AreCheckValues matched) }
+    ensures none { IfNone result ((job : CheckJobValue) → AreCheckValues matched job → ⊥) }
 {
-    let [
-        pointers_option,
-        pointers,
-        lines_option,
-        lines,
-        answer_option,
-        answer,
-        inputs @ ..,
-    ] = words
-    else {
-        return Err(JobRefusal::Usage);
-    };
-    if pointers_option.as_str() != "--pointers"
-        || lines_option.as_str() != "--lines"
-        || answer_option.as_str() != "--answer"
-    {
-        return Err(JobRefusal::Usage);
-    }
-    let Some(pointers) = count_of(pointers, MAX_POINTERS) else {
-        return Err(JobRefusal::Usage);
-    };
-    let Some(lines) = count_of(lines, MAX_LINES) else {
-        return Err(JobRefusal::Usage);
-    };
-    if !is_file_name(answer.as_bytes()) {
-        return Err(JobRefusal::Usage);
-    }
-    let inputs = inputs_of(alloc, inputs)?;
-    Ok(CheckJob {
-        pointers,
-        lines,
-        answer: Text::of(alloc, answer.as_bytes())?,
-        inputs,
+    Some(CheckJob {
+        pointers: count_in(&matched.pointers, MAX_POINTERS)?,
+        lines: count_in(&matched.lines, MAX_LINES)?,
+        answer: matched.answer?,
+        inputs: inputs_of(matched.names),
     })
 }
 
-// Reads the words after `run`.
-fn run_job_of(alloc: Global, words: &[String]) -> Result<RunJob, JobRefusal>
-    ensures { IsReading (RunJobOf (map string_bytes words.now)) result }
+// The run that the values spell, if they spell one.
+fn run_job(matched: Matched) -> Option<RunJob>
+    requires { AreFileNames matched }
+    ensures some { IfSome result (AreRunValues matched) }
+    ensures none { IfNone result ((job : RunJobValue) → AreRunValues matched job → ⊥) }
 {
-    let [
-        pointers_option,
-        pointers,
-        program_option,
-        program,
-        others @ ..,
-    ] = words
-    else {
-        return Err(JobRefusal::Usage);
-    };
-    if pointers_option.as_str() != "--pointers" || program_option.as_str() != "--program" {
-        return Err(JobRefusal::Usage);
-    }
-    let Some(pointers) = count_of(pointers, MAX_POINTERS) else {
-        return Err(JobRefusal::Usage);
-    };
-    if !is_file_name(program.as_bytes()) {
-        return Err(JobRefusal::Usage);
-    }
-    let Some((run, inputs)) = run_option(others) else {
-        return Err(JobRefusal::Usage);
-    };
-    let inputs = inputs_of(alloc, inputs)?;
-    Ok(RunJob {
-        pointers,
-        run,
-        program: Text::of(alloc, program.as_bytes())?,
-        inputs,
+    Some(RunJob {
+        pointers: count_in(&matched.pointers, MAX_POINTERS)?,
+        run: run_in(&matched.run)?,
+        program: matched.program?,
+        inputs: inputs_of(matched.names),
     })
 }
 
-// Reads the names of a domain file and of from 1 to `MAX_INSTANCES` instance files.
-fn inputs_of(alloc: Global, words: &[String]) -> Result<Inputs, JobRefusal>
-    ensures { IsReading (AreInputsOf (map string_bytes words.now)) result }
+// The search over a family that the names spell, if they spell one.
+fn gen_job(matched: Matched) -> Option<GenJob>
+    ensures some { IfSome result (AreGenValues matched) }
+    ensures none { IfNone result ((job : GenJobValue) → AreGenValues matched job → ⊥) }
 {
-    let [domain, instances @ ..] = words else {
-        return Err(JobRefusal::Usage);
+    let [family, number] = matched.names.as_slice() else {
+        return None;
     };
-    if !are_file_names(domain, instances) {
-        return Err(JobRefusal::Usage);
-    }
-    Ok(Inputs {
-        domain: Text::of(alloc, domain.as_bytes())?,
-        instances: texts_of(alloc, instances)?,
+    Some(GenJob {
+        family: family_named(family.as_slice())?,
+        number: number_of(number.as_slice(), 0, u64::from(MAX_NUMBER))? as u32,
     })
 }
 
-// Whether the words name a domain file, and from 1 to `MAX_INSTANCES` instance files.
-fn are_file_names(domain: &String, instances: &[String]) -> bool
-    ensures { IsTrue result ↔ (IsTrue (is_file_name (string_bytes domain.now))
-        × (0 < length instances.now)
-        × (length instances.now ≤ MAX_INSTANCES)
-        × All (λ name. IsTrue (is_file_name (string_bytes name))) instances.now) }
+// The first of the names is that of the domain file.
+fn inputs_of(mut names: List<Text>) -> Inputs
+    requires { 0 < length names }
+    ensures { names_of result ≡ names }
 {
-    is_file_name(domain.as_bytes())
-        && !instances.is_empty()
-        && instances.len() <= usize::from(MAX_INSTANCES)
-        && instances.iter().all(|name| is_file_name(name.as_bytes()))
-}
-
-fn is_file_name(word: &[u8]) -> bool
-    ensures { result ≡ is_file_name word.now }
-{
-    word.first().is_some_and(|first| *first != b'-')
-}
-
-fn texts_of(alloc: Global, words: &[String]) -> Result<List<Text>, OutOfMemory>
-    ensures { IfOk result (λ texts. texts ≡ map string_bytes words.now) }
-{
-    let mut texts = List::new(alloc);
-    for word in words {
-        texts.push(Text::of(alloc, word.as_bytes())?)?;
+    let domain = names.remove(0);
+    Inputs {
+        domain,
+        instances: names,
     }
-    Ok(texts)
+}
+
+// The family that has a name, if one has it.
+fn family_named(name: &[u8]) -> Option<Family>
+    ensures some { IfSome result (λ family. name.now ≡ family_name family) }
+    ensures none { IfNone result ((family : FamilyValue) → name.now ≢ family_name family) }
+{
+    match name {
+        b"lights" => Some(Family::Lights),
+        b"corridor" => Some(Family::Corridor),
+        _ => None,
+    }
 }

@@ -4,7 +4,7 @@ ghost use Rattle.command_words.specs.Words.{usage_text};
 use flag_rules::{OutOfMemory, Text};
 use std::alloc::Global;
 
-/// How the planner is called. Commands that are not there yet are named too.
+/// How the planner is called.
 const USAGE: &[u8] =
     b"usage: bfgp synth --pointers K --lines N [--budget B] [--run R] [--order E] DOMAIN INSTANCE..
        bfgp check --pointers K --lines N --answer FILE DOMAIN INSTANCE..

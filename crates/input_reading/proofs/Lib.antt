@@ -2,9 +2,11 @@ pub mod Chain
 pub mod AskedFor
 pub mod Sequels
 pub mod Tables
+pub mod TextTables
 pub mod OperationNames
 pub mod Machines
 pub mod Held
 pub mod OtherFiles
 pub mod Decided
 pub mod OneResult
+pub mod FaultlessTexts

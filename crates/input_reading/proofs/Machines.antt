@@ -62,13 +62,13 @@ module _ (told : Option Files) (inputs : Inputs) (pointers : ℕ) where
         knowing_same (λ (files : Files). Gives (tables_due files domain inputs.instances) r) kept (subst (λ (n : List (List ℕ)). Knowing later (λ (files : Files). Gives (tables_due files domain n) r)) same here)
 
     -- after the tables of the instances
-    pub from_tables : (tables : List Ground) (r : Result MachineParts Halt) → Knowing later (λ (files : Files). Gives (tables_due files domain names) (Ok tables)) → Gives (after_tables inputs pointers domain tables) r → Comes (λ files. after_domain files inputs pointers domain) r
+    pub from_tables : (tables : List Ground) (r : Result MachineParts Halt) → Knowing later (λ (files : Files). Gives (tables_due files domain names) (Ok tables)) → Gives (after_tables inputs.domain pointers domain tables) r → Comes (λ files. after_domain files inputs pointers domain) r
     from_tables tables r read rest =
-        known_next told (λ files. tables_due files domain inputs.instances) (λ files. after_tables inputs pointers domain) tables r (tables_at (Ok tables) read) (knowing_always told (λ (files : Files). Gives (after_tables inputs pointers domain tables) r) (λ files. rest))
+        known_next told (λ files. tables_due files domain inputs.instances) (λ files. after_tables inputs.domain pointers domain) tables r (tables_at (Ok tables) read) (knowing_always told (λ (files : Files). Gives (after_tables inputs.domain pointers domain tables) r) (λ files. rest))
 
     pub at_tables : (halt : Halt) → Knowing later (λ (files : Files). Gives (tables_due files domain names) (Err halt)) → Comes (λ files. after_domain files inputs pointers domain) (Err halt)
     at_tables halt ended =
-        known_end told (λ files. tables_due files domain inputs.instances) (λ files. after_tables inputs pointers domain) halt (tables_at (Err halt) ended)
+        known_end told (λ files. tables_due files domain inputs.instances) (λ files. after_tables inputs.domain pointers domain) halt (tables_at (Err halt) ended)
 
 -- the texts of the operations of the machine are names
 pub all_named : (task : TaskParts) (tables : List Ground) (pointers : ℕ) (r : Result MachineParts Halt) → IsTask task → 0 < pointers → pointers ≤ MAX_POINTERS → IfOk r (λ machine. operation_count task pointers ≤ MAX_OPS) → IfOk r (λ machine. machine ≡ record { task = task; tables = tables; pointers = pointers }) → IfOk r (λ machine. AreNames (operation_texts machine.task machine.pointers))
@@ -86,8 +86,8 @@ some_instances task tables pointers (Ok machine) some is = subst (λ (m : Machin
 some_instances task tables pointers (Err halt) some is = tt
 
 -- the machine, or the fault that there are too many operations
-pub counted : (inputs : Inputs) (pointers : ℕ) (domain : Domain) (tables : List Ground) (name : List ℕ) (r : Result MachineParts Halt) → name ≡ inputs.domain → IfOk r (λ machine. operation_count domain.task pointers ≤ MAX_OPS) → IfErr r (λ halt. Gives (or_tell name machine_fault (IsCountReply domain.task pointers)) (Err halt)) → IfOk r (λ machine. machine ≡ record { task = domain.task; tables = tables; pointers = pointers }) → Gives (after_tables inputs pointers domain tables) r
-counted inputs pointers domain tables name (Ok machine) same few told is =
-    then_next (or_tell inputs.domain machine_fault (IsCountReply domain.task pointers)) (after_count domain tables pointers) tt (Ok machine) few (ap Ok is)
-counted inputs pointers domain tables name (Err halt) same few told is =
-    then_end (or_tell inputs.domain machine_fault (IsCountReply domain.task pointers)) (after_count domain tables pointers) halt (subst (λ (n : List ℕ). Gives (or_tell n machine_fault (IsCountReply domain.task pointers)) (Err halt)) same told)
+pub counted : (name : List ℕ) (pointers : ℕ) (domain : Domain) (tables : List Ground) (slice : List ℕ) (r : Result MachineParts Halt) → slice ≡ name → IfOk r (λ machine. operation_count domain.task pointers ≤ MAX_OPS) → IfErr r (λ halt. Gives (or_tell slice machine_fault (IsCountReply domain.task pointers)) (Err halt)) → IfOk r (λ machine. machine ≡ record { task = domain.task; tables = tables; pointers = pointers }) → Gives (after_tables name pointers domain tables) r
+counted name pointers domain tables slice (Ok machine) same few told is =
+    then_next (or_tell name machine_fault (IsCountReply domain.task pointers)) (after_count domain tables pointers) tt (Ok machine) few (ap Ok is)
+counted name pointers domain tables slice (Err halt) same few told is =
+    then_end (or_tell name machine_fault (IsCountReply domain.task pointers)) (after_count domain tables pointers) halt (subst (λ (n : List ℕ). Gives (or_tell n machine_fault (IsCountReply domain.task pointers)) (Err halt)) same told)

@@ -40,7 +40,7 @@ use Rattle.input_reading.specs.declared.fault.Fault.TheVariants as faults
 use Rattle.command_words.specs.declared.job.Inputs.{Inputs}
 use Rattle.input_reading.specs.Faults.{reading_fault, parsing_fault, task_fault, ground_fault, machine_fault, program_fault}
 use Rattle.input_reading.specs.Grounding.{IsGroundReply, IsCountReply}
-use Rattle.input_reading.specs.Inputs.{IsWhole, file_due, domain_due, table_due, tables_due, machine_due}
+use Rattle.input_reading.specs.Inputs.{IsWhole, file_due, domain_due, table_due, tables_due, machine_due, tables_of_texts_due, machine_of_texts_due}
 use Rattle.input_reading.proofs.Held.{machine_held}
 use Rattle.input_reading.proofs.OperationNames.{operations-named}
 use Rattle.input_reading.proofs.Decided.{IsDecided, IsDefinite, pure_decided, then_decided, tell_decided}
@@ -128,18 +128,18 @@ domain_decided name bytes =
     then_decided (tell_decided name (task_definite text)) (λ task is.
     pure_decided (record { text = text; task = task })))
 
-module _ (files : Files) (domain : Domain) where
-  table_decided : (name bytes : List ℕ) → IsDecided (table_due name domain bytes)
-  table_decided name bytes =
-      then_decided (tell_decided name (problem_definite bytes)) (λ text has.
-      then_decided (tell_decided name (instance_definite domain.text text)) (λ instance is.
-      tell_decided name (ground_definite domain.task instance)))
+table_decided : (domain : Domain) (name bytes : List ℕ) → IsDecided (table_due name domain bytes)
+table_decided domain name bytes =
+    then_decided (tell_decided name (problem_definite bytes)) (λ text has.
+    then_decided (tell_decided name (instance_definite domain.text text)) (λ instance is.
+    tell_decided name (ground_definite domain.task instance)))
 
+module _ (files : Files) (domain : Domain) where
   tables_decided : (names : List (List ℕ)) → IsDecided (tables_due files domain names)
   tables_decided [] = pure_decided []
   tables_decided (name ∷ names) =
       then_decided (file_decided files MAX_FILE_BYTES name) (λ bytes read.
-      then_decided (table_decided name bytes) (λ table made.
+      then_decided (table_decided domain name bytes) (λ table made.
       then_decided (tables_decided names) (λ tables others.
       pure_decided (table ∷ tables))))
 
@@ -161,6 +161,20 @@ machine_decided files inputs pointers =
     then_decided (tables_decided files domain inputs.instances) (λ tables made.
     then_decided (tell_decided inputs.domain (count_definite domain.task pointers)) (λ counted few.
     pure_decided (record { task = domain.task; tables = tables; pointers = pointers })))))
+
+tables_of_texts_decided : (name : List ℕ) (domain : Domain) (texts : List (List ℕ)) → IsDecided (tables_of_texts_due name domain texts)
+tables_of_texts_decided name domain [] = pure_decided []
+tables_of_texts_decided name domain (text ∷ texts) =
+    then_decided (table_decided domain name text) (λ table made.
+    then_decided (tables_of_texts_decided name domain texts) (λ tables others.
+    pure_decided (table ∷ tables)))
+
+pub machine_of_texts_decided : (name domain_text : List ℕ) (problems : List (List ℕ)) (pointers : ℕ) → IsDecided (machine_of_texts_due name domain_text problems pointers)
+machine_of_texts_decided name domain_text problems pointers =
+    then_decided (domain_decided name domain_text) (λ domain numbered.
+    then_decided (tables_of_texts_decided name domain problems) (λ tables made.
+    then_decided (tell_decided name (count_definite domain.task pointers)) (λ counted few.
+    pure_decided (record { task = domain.task; tables = tables; pointers = pointers }))))
 
 -- the texts of the operations of a machine that was made are names
 pub machine_named : (files : Files) (inputs : Inputs) (pointers : ℕ) → 0 < pointers → pointers ≤ MAX_POINTERS → (machine : MachineParts) → machine_due files inputs pointers (Ok machine) → AreNames (operation_texts machine.task machine.pointers)

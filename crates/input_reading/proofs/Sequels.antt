@@ -13,7 +13,7 @@ use Rattle.input_reading.specs.Faults.{task_fault, ground_fault, machine_fault}
 use Rattle.input_reading.specs.Steps.{◌>>=◌, pure, or_tell}
 use Rattle.pddl_task.specs.Replies.{IsTaskReply, IsInstanceReply}
 use Rattle.input_reading.specs.Grounding.{IsGroundReply, IsCountReply}
-use Rattle.input_reading.specs.Inputs.{domain_due, table_due, tables_due}
+use Rattle.input_reading.specs.Inputs.{domain_due, table_due, tables_due, tables_of_texts_due}
 
 -- after the task of a domain text
 abbrev pub after_task : DomainText → TaskParts → Result Domain (List ℕ) → Type 0
@@ -48,13 +48,17 @@ abbrev pub after_count : Domain → List Ground → ℕ → Unit {0} → Result 
 after_count domain tables pointers counted = pure (record { task = domain.task; tables = tables; pointers = pointers })
 
 -- after the tables of the instances
-abbrev pub after_tables : Inputs → ℕ → Domain → List Ground → Result MachineParts (List ℕ) → Type 0
-after_tables inputs pointers domain tables = or_tell inputs.domain machine_fault (IsCountReply domain.task pointers) >>= after_count domain tables pointers
+abbrev pub after_tables : List ℕ → ℕ → Domain → List Ground → Result MachineParts (List ℕ) → Type 0
+after_tables name pointers domain tables = or_tell name machine_fault (IsCountReply domain.task pointers) >>= after_count domain tables pointers
 
 -- after the domain
 abbrev pub after_domain : Files → Inputs → ℕ → Domain → Result MachineParts (List ℕ) → Type 0
-after_domain files inputs pointers domain = tables_due files domain inputs.instances >>= after_tables inputs pointers domain
+after_domain files inputs pointers domain = tables_due files domain inputs.instances >>= after_tables inputs.domain pointers domain
 
 -- after the bytes of the domain file
 abbrev pub after_domain_bytes : Files → Inputs → ℕ → List ℕ → Result MachineParts (List ℕ) → Type 0
 after_domain_bytes files inputs pointers bytes = domain_due inputs.domain bytes >>= after_domain files inputs pointers
+
+-- after the domain, where the texts of the instances are held in memory
+abbrev pub after_domain_of_texts : List ℕ → List (List ℕ) → ℕ → Domain → Result MachineParts (List ℕ) → Type 0
+after_domain_of_texts name texts pointers domain = tables_of_texts_due name domain texts >>= after_tables name pointers domain

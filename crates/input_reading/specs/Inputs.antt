@@ -58,6 +58,22 @@ machine_due files inputs pointers = do
   counted ← or_tell inputs.domain machine_fault (IsCountReply domain.task pointers)
   pure (record { task = domain.task; tables = tables; pointers = pointers })
 
+-- the texts of instances over a domain are read, in order; their faults are told of this name
+abbrev pub tables_of_texts_due : List ℕ → Domain → List (List ℕ) → Result (List Ground) (List ℕ) → Type 0
+tables_of_texts_due name domain [] = pure []
+tables_of_texts_due name domain (text ∷ texts) = do
+  table ← table_due name domain text
+  tables ← tables_of_texts_due name domain texts
+  pure (table ∷ tables)
+
+-- the machine over the texts of a domain and of instances, and so many pointers; their faults are told of this name
+abbrev pub machine_of_texts_due : List ℕ → List ℕ → List (List ℕ) → ℕ → Result MachineParts (List ℕ) → Type 0
+machine_of_texts_due name domain_text problems pointers = do
+  domain ← domain_due name domain_text
+  tables ← tables_of_texts_due name domain problems
+  counted ← or_tell name machine_fault (IsCountReply domain.task pointers)
+  pure (record { task = domain.task; tables = tables; pointers = pointers })
+
 -- the bytes of a program file are read, over the operations of a machine
 abbrev pub program_due : MachineParts → List ℕ → List ℕ → Result Program (List ℕ) → Type 0
 program_due machine name bytes = or_tell name program_fault (Reads (operation_texts machine.task machine.pointers) bytes)

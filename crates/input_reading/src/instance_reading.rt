@@ -10,7 +10,7 @@ ghost use Rattle.input_reading.specs.Grounding.{IsGroundReply};
 ghost use Rattle.input_reading.specs.Faults.{parsing_fault, task_fault, ground_fault};
 ghost use Rattle.input_reading.specs.Steps.{or_tell, Gives};
 ghost use Rattle.input_reading.specs.Asked.{AsksInTurn};
-ghost use Rattle.input_reading.specs.Inputs.{table_due, tables_due};
+ghost use Rattle.input_reading.specs.Inputs.{table_due, tables_due, tables_of_texts_due};
 ghost use Rattle.input_reading.specs.Causes.{HaltCause, is_read_fault};
 ghost use Rattle.input_reading.specs.Inner.Causes.{TellsOther};
 ghost use Rattle.input_reading.specs.Inner.Domains.{IsReadDomain};
@@ -48,6 +48,28 @@ pub(crate) fn tables_of<S: Shelf>(
     for name in names {
         let bytes = read_input(alloc, shelf, name.as_slice(), MAX_FILE_BYTES as u64)?;
         tables.push(table_of(alloc, name.as_slice(), domain, bytes.as_slice())?)?;
+    }
+    Ok(tables)
+}
+
+/// Reads the texts of instances over a domain, in order, and gives the tables of their ground atoms. Where one is refused, the
+/// line tells a fault of a file with this name.
+pub(crate) fn tables_of_texts(
+    alloc: Global,
+    name: &[u8],
+    domain: &Domain,
+    texts: &[Text],
+) -> Result<List<AtomTable>, Halt>
+    requires short { All (λ text. length text ≤ MAX_FILE_BYTES) texts.now }
+    requires domain { IsReadDomain domain.now }
+    ensures due { Gives (tables_of_texts_due name.now domain.now texts.now) result }
+    ensures fit { IfOk result (λ tables. All (IsTableOf domain.now.task) tables) }
+    ensures count { IfOk result (λ tables. length tables ≡ length texts.now) }
+    ensures cause { IfErr result TellsOther }
+{
+    let mut tables = List::new(alloc);
+    for text in texts {
+        tables.push(table_of(alloc, name, domain, text.as_slice())?)?;
     }
     Ok(tables)
 }

@@ -1,5 +1,5 @@
 //! Reads the files of a job: the machine over a domain and instances, a program, any further file, and the line that tells a
-//! fault.
+//! fault. The machine over texts that are held in memory is made here too.
 //!
 //! Of `specs/` read `Inputs` first: what is due of the files, step by step; then `Posed`: the task and the instances that they
 //! hold; and `Faults`: the lines that tell a fault. `Inner` has what private functions owe each other.
@@ -17,5 +17,5 @@ mod telling;
 pub use fault::Fault;
 pub use file_reading::read_input;
 pub use halt::Halt;
-pub use machine::machine_for;
+pub use machine::{machine_for, machine_of_texts};
 pub use program_reading::program_of;

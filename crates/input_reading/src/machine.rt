@@ -2,6 +2,7 @@ ghost use Rattle.std.specs.Prelude.{◌≡◌, ◌<◌, ◌≤◌, length, All, 
 ghost use Rattle.bfgp_outside.specs.Causes.{RoseIf};
 ghost use Rattle.bfgp_outside.specs.Shelf.{Knowing, GoesOn};
 ghost use Rattle.ground_state.specs.Action.{IsTableOf};
+ghost use Rattle.flag_rules.specs.declared.file.TheConstants.{MAX_FILE_BYTES};
 ghost use Rattle.program_model.specs.declared.alphabet.TheConstants.{MAX_OPS};
 ghost use Rattle.program_model.specs.declared.machine.TheConstants.{MAX_INSTANCES, MAX_POINTERS};
 ghost use Rattle.pointer_machine.specs.Operations.{operation_count};
@@ -12,7 +13,7 @@ ghost use Rattle.input_reading.specs.Grounding.{IsCountReply};
 ghost use Rattle.command_words.specs.Words.{AreInputs, names_of};
 ghost use Rattle.input_reading.specs.Steps.{or_tell, Gives};
 ghost use Rattle.input_reading.specs.Asked.{AsksInTurn};
-ghost use Rattle.input_reading.specs.Inputs.{machine_due};
+ghost use Rattle.input_reading.specs.Inputs.{machine_due, machine_of_texts_due};
 ghost use Rattle.input_reading.specs.Causes.{HaltCause, is_read_fault};
 ghost use Rattle.input_reading.specs.Inner.Causes.{TellsOther};
 
@@ -20,11 +21,11 @@ use crate::domain_reading::domain_of;
 use crate::fault::Fault;
 use crate::file_reading::read_input;
 use crate::halt::Halt;
-use crate::instance_reading::tables_of;
+use crate::instance_reading::{tables_of, tables_of_texts};
 use crate::telling::refuse;
 use bfgp_outside::Shelf;
 use command_words::Inputs;
-use flag_rules::{List, MAX_FILE_BYTES};
+use flag_rules::{List, MAX_FILE_BYTES, Text};
 use ground_state::{AtomTable, Task};
 use pointer_machine::PointerMachine;
 use std::alloc::Global;
@@ -54,6 +55,33 @@ pub fn machine_for<S: Shelf>(
     let domain = domain_of(alloc, domain_name, bytes.as_slice())?;
     let tables = tables_of(alloc, shelf, &domain, inputs.instances.as_slice())?;
     machine_over(alloc, domain_name, domain.task, tables, pointers)
+}
+
+/// Gives the machine over so many pointers and the texts of a domain and of instances, which are held in memory. Where they are
+/// refused, the line tells a fault of a file with this name. It never answers a failed read.
+pub fn machine_of_texts(
+    alloc: Global,
+    name: &[u8],
+    domain: &[u8],
+    problems: &[Text],
+    pointers: u8,
+) -> Result<PointerMachine, Halt>
+    requires short_domain { length domain.now ≤ MAX_FILE_BYTES }
+    requires short_problems { All (λ text. length text ≤ MAX_FILE_BYTES) problems.now }
+    requires some_problems { 0 < length problems.now }
+    requires few_problems { length problems.now ≤ MAX_INSTANCES }
+    requires some_pointers { 0 < pointers }
+    requires few_pointers { pointers ≤ MAX_POINTERS }
+    ensures due { Gives (machine_of_texts_due name.now domain.now problems.now pointers) result }
+    ensures names { IfOk result (λ machine. AreNames (operation_texts machine.task machine.pointers)) }
+    ensures pointers { IfOk result (λ machine. machine.pointers ≡ pointers) }
+    ensures instances { IfOk result (λ machine.
+        (0 < length machine.tables) × (length machine.tables ≤ MAX_INSTANCES)) }
+    ensures cause { IfErr result TellsOther }
+{
+    let domain = domain_of(alloc, name, domain)?;
+    let tables = tables_of_texts(alloc, name, &domain, problems)?;
+    machine_over(alloc, name, domain.task, tables, pointers)
 }
 
 // The machine over the instances of a task, unless it has too many operations.

@@ -1,17 +1,20 @@
 -- The reply to the words of a command, before and after it is written.
-use Rattle.std.specs.Prelude.{◌≡◌, ◌≢◌, ℕ, List, Bool, true, false, Option, Result, Ok, Err, IfOk}
+use Rattle.std.specs.Prelude.{◌≡◌, ◌≢◌, ℕ, List, Bool, true, false, Option, Result, Ok, Err, IfOk, IfErr}
+use Rattle.bfgp_outside.specs.Shelf.{Files}
 use Rattle.bfgp_outside.specs.Sink.{Appends, AppendsPrefix}
 use Rattle.command_words.specs.declared.job.Job.{Job}
-use Rattle.command_words.specs.declared.job.Job.TheVariants.{Synth, Check, Run}
+use Rattle.command_words.specs.declared.job.Job.TheVariants.{Synth, Check, Run, Gen}
 use Rattle.command_words.specs.Words.{JobOf}
 use Rattle.input_reading.specs.declared.halt.Halt.{Halt}
 use Rattle.input_reading.specs.declared.halt.Halt.TheVariants as halts
+use Rattle.input_reading.specs.Steps.{Gives}
 use Rattle.bfgp_jobs.specs.declared.status.Status.{Status}
 use Rattle.bfgp_jobs.specs.declared.status.Status.TheVariants.{Done, No, Usage, Input, SpentExpansions, SpentRun, ReadFault, WriteFault, OutOfMemory}
 use Rattle.bfgp_jobs.specs.declared.replying.NoReply.{NoReply}
 use Rattle.bfgp_jobs.specs.declared.replying.NoReply.TheVariants as none
 use Rattle.bfgp_jobs.specs.Reply.{Reply}
-use Rattle.bfgp_jobs.specs.Due.{usage_reply, fault_reply}
+use Rattle.bfgp_jobs.specs.Due.{Due, usage_reply, fault_reply, gen_due}
+use Rattle.bfgp_jobs.specs.Answers.{IsAnswerStatus}
 
 -- the statuses of replies: an answer, the usage text or the line of a fault
 abbrev pub IsReplyStatus : Status → Type 0
@@ -24,12 +27,6 @@ IsReplyStatus SpentRun = Unit {0}
 IsReplyStatus ReadFault = ⊥
 IsReplyStatus WriteFault = ⊥
 IsReplyStatus OutOfMemory = ⊥
-
--- the job is a search
-abbrev pub IsSearch : Job → Type 0
-IsSearch (Synth job) = Unit {0}
-IsSearch (Check job) = ⊥
-IsSearch (Run job) = ⊥
 
 -- what a job comes to, as a reply: a fault ends it with the reply that tells it
 abbrev pub told : Result Reply Halt → Result Reply NoReply
@@ -54,6 +51,19 @@ IsUsageReply (Err none.OutOfMemory) = Unit {0}
 pub record RepliesUsage (words : List (List ℕ)) (result : Result Reply NoReply) : Type 0 where
   pub no_job : ((job : Job) → JobOf words job → ⊥) → IsUsageReply result
   pub a_job : (job : Job) → JobOf words job → IfOk result (λ reply. reply.status ≢ Usage)
+
+-- a search over a family comes to what is due, and ends before its answer for want of memory alone, whatever the shelf tells
+abbrev pub ComesWithoutFiles : Job → Result Reply Halt → Type 0
+ComesWithoutFiles (Synth job) outcome = Unit {0}
+ComesWithoutFiles (Check job) outcome = Unit {0}
+ComesWithoutFiles (Run job) outcome = Unit {0}
+ComesWithoutFiles (Gen job) outcome = Gives (gen_due job) outcome × IfErr outcome (λ halt. halt ≡ halts.OutOfMemory)
+
+-- the reply is an answer that is due whatever files there may be, and there is none for want of memory alone
+pub record RepliesWithoutFiles (words : List (List ℕ)) (result : Result Reply NoReply) : Type 0 where
+  pub due : (files : Files) → IfOk result (Due words files)
+  pub verdict : IfOk result (λ reply. IsAnswerStatus reply.status)
+  pub cause : IfErr result (λ why. why ≡ none.OutOfMemory)
 
 -- what writing a reply comes to: all of it was appended, or a front of it
 pub record Writes (reply : Reply) (status : Status) (old new : Option (List ℕ)) : Type 0 where

@@ -9,3 +9,6 @@ returns-in-Ok-clause-check_accepts g c = with_words c.args.words c.in-Ok.words _
 
 pub returns-in-Ok-clause-due : goal.returns-in-Ok-clause-due
 returns-in-Ok-clause-due g c = with_words c.args.words c.in-Ok.words _ c.in-Ok.is (c.bfgp.result, c.exit_code.ensures, rw (← c.deref.ensures.value) c.bfgp.ensures.due)
+
+pub returns-in-Ok-clause-family : goal.returns-in-Ok-clause-family
+returns-in-Ok-clause-family g c = with_words c.args.words c.in-Ok.words _ c.in-Ok.is (rw (← c.deref.ensures.value) (λ family. (c.bfgp.result, c.exit_code.ensures, c.bfgp.ensures.family family)))

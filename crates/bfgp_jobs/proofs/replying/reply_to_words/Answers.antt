@@ -1,6 +1,6 @@
 use Rattle.std.proofs.Common.{map, string_bytes}
 use Rattle.command_words.proofs.OneJob.{job_kept}
-use Rattle.bfgp_jobs.proofs.Outcomes.{job_known, usage_known, job_usage, job_input, job_status, job_spent, usage_unspent, job_reads, named_asked, none_asked}
+use Rattle.bfgp_jobs.proofs.Outcomes.{job_known, usage_known, job_usage, job_input, job_status, job_spent, usage_unspent, job_reads, named_asked, none_asked, job_without_files, usage_no_family}
 use Rattle.bfgp_jobs.proofs.replying.reply_to_words.Goals as goal
 
 pub job_outcome-requires : goal.job_outcome-requires
@@ -43,3 +43,12 @@ returns-in-Ok-clause-spent g c =
 
 pub returns-in_ok-usage-in-Err-Usage-clause-spent : goal.returns-in_ok-usage-in-Err-Usage-clause-spent
 returns-in_ok-usage-in-Err-Usage-clause-spent g c = usage_unspent (map string_bytes c.args.words.now) c.in_ok-usage-in-Err-Usage.field-0 c.in_ok-usage-in-Err-Usage.ensures
+
+pub returns-in-Ok-clause-family : goal.returns-in-Ok-clause-family
+returns-in-Ok-clause-family g c =
+    job_without_files (map string_bytes c.args.words.now) c.in-Ok.job c.job_outcome.result c.tell.result c.in-Ok.ensures c.tell.ensures c.job_outcome.ensures.verdict c.job_outcome.ensures.family
+
+pub returns-in_ok-usage-in-Err-Usage-clause-family : goal.returns-in_ok-usage-in-Err-Usage-clause-family
+returns-in_ok-usage-in-Err-Usage-clause-family g c =
+    let none = rw c.in-Err-Usage.field-0-is at c.in-Err-Usage.ensures in
+    usage_no_family (map string_bytes c.args.words.now) _ none

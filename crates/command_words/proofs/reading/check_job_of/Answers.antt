@@ -1,23 +1,26 @@
-use Rattle.std.proofs.Common.{arith, rules, sym, ◌∙◌, ◌≡◌, ◌∷◌, string_bytes, codes}
-use Rattle.std.specs.Prelude.{IsTrue}
-use Rattle.command_words.specs.Words.{is_file_name}
-use Rattle.command_words.proofs.Spelled.{six_words}
+use Rattle.std.proofs.Common.{map, string_bytes}
+use Rattle.std.proofs.lemmas.Result.{err_from_is_err_and}
+use Rattle.command_words.specs.declared.matching.Command.TheVariants.{Check}
+use Rattle.command_words.specs.Words.{CheckJobOf}
+use Rattle.command_words.specs.Inner.Matching.{IsMatched}
+use Rattle.command_words.specs.Inner.Values.{AreCheckValues}
+use Rattle.command_words.proofs.InputNames.{matched_names}
+use Rattle.command_words.proofs.Readings.{refused, read_by_values}
+use Rattle.command_words.proofs.CheckWords.{check_matched, check_values, check_words}
 use Rattle.command_words.proofs.reading.check_job_of.Goals as goal
+
+pub returns-in_err-matched_in : goal.returns-in_err-matched_in
+returns-in_err-matched_in c =
+    let p = err_from_is_err_and c.from_residual.result c.from_residual.ensures.1 in
+    let words = map string_bytes c.args.words.now in
+    rw (p.1, p.2) (refused (IsMatched Check words) (CheckJobOf words) c.in_err-matched_in.field-0.0 (check_matched words) c.in_err-matched_in.ensures)
+
+pub check_job-requires : goal.check_job-requires
+check_job-requires c = matched_names Check (map string_bytes c.args.words.now) c.in_ok-matched_in.field-0 c.in_ok-matched_in.ensures
 
 pub returns : goal.returns
 returns c =
-    let form : (string_bytes c.pointers_option-item.result ≡ codes "--pointers") × (string_bytes c.lines_option-item.result ≡ codes "--lines") × (string_bytes c.answer_option-item.result ≡ codes "--answer") = search rules in
-    let answer : string_bytes c.answer-item.result ≡ c.in_ok-of.field-0 = sym c.as_bytes-2.ensures.value ∙ sym c.in_ok-of.ensures in
-    let named : IsTrue (is_file_name (string_bytes c.answer-item.result)) = search rules in
-    record {
-      spelled = six_words string_bytes c.args.words.now c.pointers_option-item.result c.pointers-item.result c.lines_option-item.result c.lines-item.result c.answer_option-item.result c.answer-item.result (omega arith) c.pointers_option-item.is c.pointers-item.is c.lines_option-item.is c.lines-item.is c.answer_option-item.is c.answer-item.is
-          ∙ (λ i. form.0 i ∷ c.in-Some.ensures.some.2 i ∷ form.1 i ∷ c.in-Some-count_of.ensures.some.2 i ∷ form.2 i ∷ answer i ∷ c.in_ok-inputs.ensures.spelled i);
-      is_job = record {
-        some_pointers = c.in-Some.ensures.some.0;
-        few_pointers = c.in-Some.ensures.some.1;
-        some_lines = c.in-Some-count_of.ensures.some.0;
-        few_lines = c.in-Some-count_of.ensures.some.1;
-        answer = rw (← answer) named;
-        inputs = c.in_ok-inputs.ensures.are_inputs;
-      };
-    }
+    let words = map string_bytes c.args.words.now in
+    let matched = c.in_ok-matched_in.field-0 in
+    let found = c.in_ok-matched_in.ensures in
+    rw c.ok_or.ensures.value (read_by_values (AreCheckValues matched) (CheckJobOf words) c.check_job.result (λ job is. check_words words matched job found is) (λ job is. check_values words matched job found is) c.check_job.ensures.some c.check_job.ensures.none)

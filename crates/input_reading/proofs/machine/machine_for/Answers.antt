@@ -40,7 +40,7 @@ returns-clause-due g c =
     from_bytes told inputs c.args.pointers name c.in_ok-bytes.bytes result c.as_slice-domain_name.ensures c.in_ok-bytes.ensures.due
     (from_domain told inputs c.args.pointers name c.in_ok-bytes.bytes c.as_slice.result.now c.in_ok-domain.domain result c.as_slice-domain_name.ensures c.as_slice.ensures c.in_ok-domain.ensures.due
     (from_tables told inputs c.args.pointers later c.in_ok-bytes.ensures.goes_on.kept c.in_ok-domain.domain c.as_slice-2.result.now c.as_slice-2.ensures c.in_ok-tables.tables result c.in_ok-tables.ensures.due
-    (counted inputs c.args.pointers c.in_ok-domain.domain c.in_ok-tables.tables name result c.as_slice-domain_name.ensures c.machine_over.ensures.few c.machine_over.ensures.told c.machine_over.ensures.machine)))
+    (counted inputs.domain c.args.pointers c.in_ok-domain.domain c.in_ok-tables.tables name result c.as_slice-domain_name.ensures c.machine_over.ensures.few c.machine_over.ensures.told c.machine_over.ensures.machine)))
 
 pub returns-clause-names : goal.returns-clause-names
 returns-clause-names g c =

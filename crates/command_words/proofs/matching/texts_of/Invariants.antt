@@ -1,0 +1,5 @@
+use Rattle.std.proofs.Common.{◌≡◌, ℕ, List, map, take, Bor}
+use Rattle.command_words.proofs.matching.texts_of.Given as goal
+
+abbrev pub invariant-loop-word : goal.invariant-loop-word
+invariant-loop-word l = l.texts ≡ map (λ (word : Bor (List ℕ)). word.now) (take l.word-index l.words)

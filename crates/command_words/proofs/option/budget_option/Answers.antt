@@ -1,6 +1,0 @@
-use Rattle.std.proofs.Common.{arith}
-use Rattle.command_words.proofs.option.budget_option.Goals as goal
-
-pub returns-in_err-budget-clause-none : goal.returns-in_err-budget-clause-none
-returns-in_err-budget-clause-none c =
-    rw c.from_residual.ensures (λ budget others least most tells. c.in_err-budget.ensures.none budget others (omega (arith, least)) (omega (arith, most)) (rw c.from.ensures tells))
