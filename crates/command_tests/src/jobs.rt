@@ -48,7 +48,7 @@ check 3 16 x=y=z d i j
 check --answer=x=y=z --pointers 3 --lines 16 d i j
 check --answer x=y=z --lines=16 --pointers=3 d i j
 
-check 4 1 =a d i
+check 4 1 ==a d i
 check --pointers 4 --answer ==a --lines 1 d i
 check --pointers=4 --answer===a --lines=1 d i";
 
