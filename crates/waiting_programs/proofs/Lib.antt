@@ -1,0 +1,4 @@
+pub mod Times
+pub mod Exchanging
+pub mod Stored
+pub mod Sharing
