@@ -1,0 +1,4 @@
+pub mod RunsSettled
+pub mod SettledStandings
+pub mod StandingsKnown
+pub mod VerdictOnAll
