@@ -1,58 +1,126 @@
 -- Nodes that are added one after another: the root of a size, and the children of a split.
-use Rattle.std.proofs.Common.{◌≡◌, ◌⊎◌, ℕ, ◌+◌, ◌*◌, ◌-◌, ◌<◌, ◌≤◌, List, [], ◌∷◌, ◌++◌, length, Option, Some, None, Bool, true, false, refl, sym, ◌∙◌, ap, subst, inl, inr, arith, length-append}
-use Rattle.std.specs.Prelude.{Contains, slice_get, MatchBool}
+use Rattle.std.proofs.Common.{◌≡◌, ◌⊎◌, ℕ, ◌+◌, ◌<◌, ◌≤◌, List, [], ◌∷◌, ◌++◌, length, Option, Some, None, Bool, true, false, refl, sym, ◌∙◌, ap, subst, inl, inr, arith, length-append}
+use Rattle.std.specs.Prelude.{Contains, slice_get, MatchBool, Result, Ok, Err, OnOk}
+use Rattle.std.proofs.lemmas.Result.{on_ok_weaker}
 use Rattle.std.proofs.lemmas.Bool.{cases_lt, MatchBool-at_true, MatchBool-at_false}
 use Rattle.std.proofs.lemmas.Option.{none-some, same_Some, slice_get_within}
 use Rattle.std.proofs.lemmas.List.Elements.{All-contains, Contains-append_left, Contains-append_right, Contains-append_cases}
 use Rattle.std.proofs.lemmas.List.Sorted.{Contains-permutation, IsPermutation-sym}
 use Rattle.program_model.specs.declared.instr.Instr.{Instr}
-use Rattle.program_model.specs.Program.{Program, with_line}
+use Rattle.program_model.specs.Semantics.{Semantics}
+use Rattle.program_model.specs.Program.{Program, empty, with_line}
 use Rattle.program_model.specs.Verdict.{IsVerdict}
 use Rattle.program_model.proofs.Places.{get-append_left, get-append_right, at_contains}
 use Rattle.synthesis.specs.declared.nodes.Held.{Held}
-use Rattle.synthesis.specs.declared.judgement.Judgement.{Judgement}
+use Rattle.judgement.specs.declared.judging.Judgement.{Judgement}
+use Rattle.judgement.specs.declared.judging.Judgement.TheVariants as judgements
+use Rattle.judgement.specs.Judging.{IsJudgement}
+use Rattle.search_bounds.specs.declared.bounds.Bounds.{Bounds}
+use Rattle.synthesis.specs.declared.newest.Found.{Found}
 use Rattle.synthesis.specs.declared.newest.Newest.{Newest}
 use Rattle.synthesis.specs.Search.{Setting, judged, twin, Node, HasKey, is_waiting, IsJudged, IsChild, AreChildren, or_else, solved_program, limited_at, first_solved, first_limited}
-use Rattle.synthesis.specs.Inner.Nodes.{IsHeldOf, pair_of, IsWaitingPair, MOST_CHILDREN}
+use Rattle.synthesis.specs.BestFirst.{best_first}
+use Rattle.synthesis.specs.Inner.Judged.{verdict_of, key_in, found_in}
+use Rattle.synthesis.specs.Inner.Nodes.{IsHeldOf, pair_of, IsWaitingPair, program_in, AreEndsIn}
 use Rattle.synthesis.specs.Inner.Splitting.{AreNumbers, AddsJudged, AddsNode, AddsNewest, AddsChildren}
 use Rattle.synthesis.proofs.Closing.{or_else_none}
 use Rattle.synthesis.proofs.Splits.{child_at, made_count}
 use Rattle.synthesis.proofs.WaitingPairs.{All-from-contains, contains_first, contains_later, contains_cases, contains_none}
 
+-- ---- what a judgement tells
+
+module _ {C : Type 0} (m : Semantics C) (bounds : Bounds) (q : Program) where
+  verdict_told : (judgement : Judgement) → IsJudgement m bounds.order q bounds.run judgement → IsVerdict m q bounds.run (verdict_of judgement)
+  verdict_told (judgements.Refused t cause) h = h
+  verdict_told (judgements.AtLimit t) h = h
+  verdict_told (judgements.Waiting line key) h = h.0
+  verdict_told (judgements.Solved ends) h = h.0
+
+  key_told : (judgement : Judgement) → IsJudgement m bounds.order q bounds.run judgement → HasKey (best_first m bounds) q (key_in judgement) (verdict_of judgement)
+  key_told (judgements.Refused t cause) h = refl
+  key_told (judgements.AtLimit t) h = refl
+  key_told (judgements.Waiting line key) h = h.1
+  key_told (judgements.Solved ends) h = refl
+
+  ends_told : (judgement : Judgement) → IsJudgement m bounds.order q bounds.run judgement → AreEndsIn m (found_in q judgement)
+  ends_told (judgements.Refused t cause) h = tt
+  ends_told (judgements.AtLimit t) h = tt
+  ends_told (judgements.Waiting line key) h = tt
+  ends_told (judgements.Solved ends) h = h.1
+
+found_told : (q : Program) (judgement : Judgement) → program_in (found_in q judgement) ≡ solved_program (judged (verdict_of judgement)) q
+found_told q (judgements.Refused t cause) = refl
+found_told q (judgements.AtLimit t) = refl
+found_told q (judgements.Waiting line key) = refl
+found_told q (judgements.Solved ends) = refl
+
+program_in_or_else : (a b : Option Found) → program_in (or_else a b) ≡ or_else (program_in a) (program_in b)
+program_in_or_else None b = refl
+program_in_or_else (Some a) b = refl
+
+ends_in_or_else : {C : Type 0} (m : Semantics C) (a b : Option Found) → AreEndsIn m b → AreEndsIn m a → AreEndsIn m (or_else a b)
+ends_in_or_else m None b h k = h
+ends_in_or_else m (Some a) b h k = k
+
 -- ---- one node
 
-module _ {C : Type 0} (s : Setting C) (program : Program) (judgement : Judgement) (is_verdict : IsVerdict s.machine program s.limit judgement.verdict) (has_key : HasKey s program judgement.key judgement.verdict) (holds after : List Held) (pairs now : List (List ℕ × ℕ)) (adds : AddsJudged program judgement holds after pairs now) where
-  abbrev added : Node
-  added = record { number = length holds; program = program; state = judged judgement.verdict; key = judgement.key }
+module _ {C : Type 0} (m : Semantics C) (bounds : Bounds) (program : Program) (judgement : Judgement) (is_judgement : IsJudgement m bounds.order program bounds.run judgement) where
+  module _ (holds after : List Held) (pairs now : List (List ℕ × ℕ)) (adds : AddsJudged judgement holds after pairs now) where
+    abbrev added : Node
+    added = record { number = length holds; program = program; state = judged (verdict_of judgement); key = key_in judgement }
 
-  adds_node : AddsNode s program holds after pairs now
-  adds_node = record {
-    node = added;
-    numbered = refl;
-    program_is = refl;
-    is_judged = record { verdict = judgement.verdict; is_verdict = is_verdict; state = refl; key = has_key };
-    held = adds.held;
-    is_held = record { state = sym adds.state; program = adds.program_held };
-    pushed = adds.pushed;
-    told = told (is_waiting added) refl;
-    kept = kept (is_waiting added) refl;
-    waits = λ w. Contains-permutation (pair_of added ∷ pairs) now (pair_of added) (MatchBool-at_true _ _ w adds.pairs_now) (contains_first (pair_of added) pairs);
-  }
-    where
-      told : (b : Bool) → is_waiting added ≡ b → (pair : List ℕ × ℕ) → Contains now pair → Contains pairs pair ⊎ ((is_waiting added ≡ true) × (pair ≡ pair_of added))
-      told true w pair h = elim (contains_cases (pair_of added) pairs pair (Contains-permutation now (pair_of added ∷ pairs) pair (IsPermutation-sym (pair_of added ∷ pairs) now (MatchBool-at_true _ _ w adds.pairs_now)) h)) [
-        | inl same ↦ inr (w, sym same)
-        | inr old ↦ inl old
-      ]
-      told false w pair h = inl (subst (λ (ps : List (List ℕ × ℕ)). Contains ps pair) (MatchBool-at_false _ _ w adds.pairs_now) h)
+    adds_node : AddsNode (best_first m bounds) program holds after pairs now
+    adds_node = record {
+      node = added;
+      numbered = refl;
+      program_is = refl;
+      is_judged = record { verdict = verdict_of judgement; is_verdict = verdict_told m bounds program judgement is_judgement; state = refl; key = key_told m bounds program judgement is_judgement };
+      held = adds.held;
+      is_held = sym adds.state;
+      pushed = adds.pushed;
+      told = told (is_waiting added) refl;
+      kept = kept (is_waiting added) refl;
+      waits = λ w. Contains-permutation (pair_of added ∷ pairs) now (pair_of added) (MatchBool-at_true _ _ w adds.pairs_now) (contains_first (pair_of added) pairs);
+    }
+      where
+        told : (b : Bool) → is_waiting added ≡ b → (pair : List ℕ × ℕ) → Contains now pair → Contains pairs pair ⊎ ((is_waiting added ≡ true) × (pair ≡ pair_of added))
+        told true w pair h = elim (contains_cases (pair_of added) pairs pair (Contains-permutation now (pair_of added ∷ pairs) pair (IsPermutation-sym (pair_of added ∷ pairs) now (MatchBool-at_true _ _ w adds.pairs_now)) h)) [
+          | inl same ↦ inr (w, sym same)
+          | inr old ↦ inl old
+        ]
+        told false w pair h = inl (subst (λ (ps : List (List ℕ × ℕ)). Contains ps pair) (MatchBool-at_false _ _ w adds.pairs_now) h)
 
-      kept : (b : Bool) → is_waiting added ≡ b → (pair : List ℕ × ℕ) → Contains pairs pair → Contains now pair
-      kept true w pair h = Contains-permutation (pair_of added ∷ pairs) now pair (MatchBool-at_true _ _ w adds.pairs_now) (contains_later (pair_of added) pairs pair h)
-      kept false w pair h = subst (λ (ps : List (List ℕ × ℕ)). Contains ps pair) (sym (MatchBool-at_false _ _ w adds.pairs_now)) h
+        kept : (b : Bool) → is_waiting added ≡ b → (pair : List ℕ × ℕ) → Contains pairs pair → Contains now pair
+        kept true w pair h = Contains-permutation (pair_of added ∷ pairs) now pair (MatchBool-at_true _ _ w adds.pairs_now) (contains_later (pair_of added) pairs pair h)
+        kept false w pair h = subst (λ (ps : List (List ℕ × ℕ)). Contains ps pair) (sym (MatchBool-at_false _ _ w adds.pairs_now)) h
 
-  pub adds_newest : (before newest : Newest) → newest.solved ≡ or_else before.solved (solved_program (judged judgement.verdict) program) → newest.limited ≡ or_else before.limited (limited_at (judged judgement.verdict)) → AddsNewest s program holds after pairs now before newest
-  unfolding adds_node
-  adds_newest before newest solved limited = record { adds = adds_node; sees = record { solved = solved; limited = limited } }
+    pub adds_newest : (before newest : Newest) → newest.solved ≡ or_else before.solved (found_in program judgement) → newest.limited ≡ or_else before.limited (limited_at (judged (verdict_of judgement))) → AddsNewest (best_first m bounds) program holds after pairs now before newest
+    unfolding adds_node
+    adds_newest before newest solved limited = record {
+      adds = adds_node;
+      sees = record {
+        solved = ap program_in solved ∙ program_in_or_else before.solved (found_in program judgement) ∙ ap (or_else (program_in before.solved)) (found_told program judgement);
+        ends = λ ends. subst (AreEndsIn m) (sym solved) (ends_in_or_else m before.solved (found_in program judgement) (ends_told m bounds program judgement is_judgement) ends);
+        limited = limited;
+      };
+    }
+
+-- so is the root, where it is added as it is judged
+pub root_added : {C : Type 0} (m : Semantics C) (bounds : Bounds) (size : ℕ) (judgement : Judgement) → IsJudgement m bounds.order (empty size) bounds.run judgement → (holds : List Held) (pairs : List (List ℕ × ℕ)) → AddsJudged judgement [] holds [] pairs →
+    (none newest : Newest) → newest.solved ≡ or_else none.solved (found_in (empty size) judgement) → newest.limited ≡ or_else none.limited (limited_at (judged (verdict_of judgement))) → AddsNewest (best_first m bounds) (empty size) [] holds [] pairs none newest
+root_added m bounds size judgement is_judgement holds pairs adds none newest = adds_newest m bounds (empty size) judgement is_judgement [] holds [] pairs adds none newest
+
+pub both_on_ok : {A E P Q R : Type 0} (result : Result A E) → (P → Q → R) → OnOk result P → OnOk result Q → OnOk result R
+both_on_ok (Ok a) f p q = f p q
+both_on_ok (Err e) f p q = tt
+
+-- where a node is added as it is judged, it is added, and seen among the newest
+pub child_added : {C A E : Type 0} (m : Semantics C) (bounds : Bounds) {q program : Program} {judgement told : Judgement} (holds after : List Held) (pairs now : List (List ℕ × ℕ)) (before newest : Newest) → program ≡ q → judgement ≡ told →
+    IsJudgement m bounds.order program bounds.run judgement → newest.solved ≡ or_else before.solved (found_in program judgement) → newest.limited ≡ or_else before.limited (limited_at (judged (verdict_of judgement))) →
+    (result : Result A E) → OnOk result (AddsJudged told holds after pairs now) → OnOk result (AddsNewest (best_first m bounds) q holds after pairs now before newest)
+child_added m bounds {q} {program} {judgement} {told} holds after pairs now before newest same is is_judgement solved limited result =
+    on_ok_weaker result (λ adds. subst (λ p. AddsNewest (best_first m bounds) p holds after pairs now before newest) same
+    (adds_newest m bounds program judgement is_judgement holds after pairs now (subst (λ j. AddsJudged j holds after pairs now) (sym is) adds) before newest solved limited))
 
 -- ---- the first that tells something
 
@@ -69,13 +137,6 @@ first_limited_push [] node = or_else_none (limited_at node.state)
 first_limited_push (x ∷ made) node = ap (or_else (limited_at x.state)) (first_limited_push made node) ∙ sym (or_else_assoc (limited_at x.state) (first_limited made) (limited_at node.state))
 
 -- ---- children
-
--- a line has not more instructions than so many
-pub few_instrs : (ops lines line count : ℕ) → ops ≤ 448 → lines ≤ 16 → line < lines → (line + 1 < lines → count ≡ ops + 4 * (lines - 2)) → (line + 1 ≡ lines → count ≡ 1) → count ≤ MOST_CHILDREN
-few_instrs ops lines line count few_ops few_lines within inner last = elim (cases_lt (line + 1) lines) [
-  | inl h ↦ let is = inner h in omega arith
-  | inr h ↦ let is = last (omega arith) in omega arith
-]
 
 module _ {C : Type 0} (s : Setting C) (parent : Program) (line : ℕ) where
   pub children_more : (first number : ℕ) (instrs : List Instr) (nodes : List Node) (instr : Instr) (node : Node) → AreChildren s parent line first instrs nodes → number ≡ first + length instrs → IsChild s parent line number instr node → AreChildren s parent line first (instrs ++ instr ∷ []) (nodes ++ node ∷ [])
@@ -94,7 +155,8 @@ module _ {C : Type 0} (s : Setting C) (parent : Program) (line : ℕ) where
     told = λ pair h. inl h;
     kept = λ pair h. h;
     waits = λ node h w. absurd (contains_none node h);
-    solved = solved;
+    solved = ap program_in solved;
+    ends = subst (AreEndsIn s.machine) (sym solved) tt;
     limited = limited;
   }
     where
@@ -154,6 +216,7 @@ module _ {C : Type 0} (s : Setting C) (parent : Program) (line : ℕ) where
       kept = λ pair h. one.adds.kept pair (adds.kept pair h);
       waits = λ node h w. by_part node w (Contains-append_cases adds.made (child ∷ []) node h);
       solved = one.sees.solved ∙ ap (λ o. or_else o (solved_program child.state child.program)) adds.solved ∙ sym (first_solved_push adds.made child);
+      ends = one.sees.ends adds.ends;
       limited = one.sees.limited ∙ ap (λ o. or_else o (limited_at child.state)) adds.limited ∙ sym (first_limited_push adds.made child);
     }
       where

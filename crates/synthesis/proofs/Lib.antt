@@ -1,7 +1,8 @@
 pub mod Lists
 pub mod Judging
-pub mod StandingsOfRuns
 pub mod Growing
+pub mod FreshRuns
+pub mod FreshWork
 pub mod Marking
 pub mod FilledPrograms
 pub mod SameNodes
@@ -21,8 +22,14 @@ pub mod EnoughLimits
 pub mod Preorder
 pub mod WaitingPairs
 pub mod Splits
+pub mod KeptSplits
 pub mod AddedNodes
 pub mod SizesOfNodes
 pub mod Walks
 pub mod SizesInTurn
 pub mod PlacesInLists
+pub mod SharedRuns
+pub mod KeptRuns
+pub mod Keeping
+pub mod ChildRuns
+pub mod Starting

@@ -101,14 +101,27 @@ module _ {C : Type 0} (s : Setting C) where
   pub root_numbered : (size : ℕ) (root : Node) → IsRoot s size root → AreNumbered (root ∷ [])
   root_numbered size root h = let number = h.number in ((tt, tt), (omega arith, tt))
 
+  pub splits_count : (stamp : ℕ) (old new : List Node) (h : Splits s stamp old new) → length new ≡ length old + length h.made
+  splits_count stamp old new h =
+      let before = take h.place old in
+      let rest = drop (h.place + 1) old in
+      let put = record h.node { state = split h.line stamp } in
+      omega (
+        arith,
+        ap length h.after,
+        ap length (split_at old h.place h.node h.here),
+        length-append before (h.node ∷ rest),
+        length-append (before ++ put ∷ h.made) rest,
+        length-append before (put ∷ h.made),
+      )
+
   pub splits_numbered : (stamp : ℕ) (old new : List Node) → Splits s stamp old new → AreNumbered old → AreNumbered new
   splits_numbered stamp old new h numbered =
       let before = take h.place old in
       let rest = drop (h.place + 1) old in
       let is : old ≡ before ++ h.node ∷ rest = split_at old h.place h.node h.here in
       let instrs = alphabet s.machine.ops (length h.node.program) h.line in
-      let count : length new ≡ length old + length h.made =
-      omega (arith, ap length h.after, ap length is, length-append before (h.node ∷ rest), length-append (before ++ record h.node { state = split h.line stamp } ∷ h.made) rest, length-append before (record h.node { state = split h.line stamp } ∷ h.made)) in
+      let count = splits_count stamp old new h in
       let below = subst (Each (IsBelow (length old))) is numbered.1 in (
         subst Distinct (sym h.after) (split_distinct s h.node.program h.line instrs (length old) before h.node h.made rest h.line stamp h.children below (subst Distinct is numbered.0)),
         subst (λ n. Each (IsBelow n) new) (sym count) (subst (Each (IsBelow (length old + length h.made))) (sym h.after) (split_below s h.node.program h.line instrs (length old) before h.node h.made rest h.line stamp h.children below)),

@@ -21,7 +21,7 @@ module _ (ops size : ℕ) where
   unsplit_alone (holdings.Refused t cause) h = refl
   unsplit_alone (holdings.AtLimit t) h = refl
   unsplit_alone holdings.Solved h = refl
-  unsplit_alone (holdings.Waiting line program) h = refl
+  unsplit_alone (holdings.Waiting line id) h = refl
   unsplit_alone (holdings.Split line stamp first) h = absurd h
 
   module _ (holds after : List Held) (number : ℕ) (others : (at : ℕ) (held : Held) → at ≢ number → slice_get holds at ≡ Some held → slice_get after at ≡ Some held) where
@@ -42,7 +42,7 @@ module _ (ops size : ℕ) where
   made_stand after first (node ∷ made) numbers rest put h =
       let here = put 0 node refl in
       let held = here.1.0 in
-      let unsplit : IsUnsplit (state_of held) = subst IsUnsplit here.1.2.state here.2 in
+      let unsplit : IsUnsplit (state_of held) = subst IsUnsplit here.1.2 here.2 in
       let alone = unsplit_alone held unsplit in
       let later = made_stand after (first + 1) made numbers rest (λ place other e. let it = put (suc place) other e in (it.0 ∙ next first place, (it.1.0, ap (slice_get after) (sym (next first place)) ∙ it.1.1, it.1.2), it.2)) h in
       (here.0 ∙ same_first first, (held, ap (slice_get after) (sym (same_first first)) ∙ here.1.1, here.1.2, subst (λ (ks : List ℕ). AreInPreorder ops size after (ks ++ (range_with_len (first + 1) (length made) ++ numbers)) (made ++ rest)) (sym alone) later))
@@ -64,7 +64,7 @@ module _ (ops size : ℕ) where
   split_stands holds after number line stamp node made rest is waits others now count put [] [] distinct h = absurd h
   split_stands holds after number line stamp node made rest is waits others now count put [] (at ∷ numbers) distinct h =
       let held = h.1.0 in
-      let unsplit : IsUnsplit (state_of held) = subst IsUnsplit h.1.2.state waits in
+      let unsplit : IsUnsplit (state_of held) = subst IsUnsplit h.1.2 waits in
       let follow : AreInPreorder ops size holds numbers rest = subst (λ (ks : List ℕ). AreInPreorder ops size holds (ks ++ numbers) rest) (unsplit_alone held unsplit) h.1.3 in
       let apart : Each (λ (other : Node). number ≡ other.number → ⊥) rest = subst (λ n. Each (λ (other : Node). n ≡ other.number → ⊥) rest) is (turned node.number rest distinct.0) in
       let stay = others_stay holds after number others numbers rest apart follow in (
@@ -72,7 +72,7 @@ module _ (ops size : ℕ) where
         (
           holdings.Split line stamp (length holds),
           subst (λ n. slice_get after n ≡ Some (holdings.Split line stamp (length holds))) (sym is ∙ h.0) now,
-          record { state = refl; program = tt },
+          refl,
           subst (λ n. AreInPreorder ops size after (range_with_len (length holds) n ++ numbers) (made ++ rest)) count (made_stand after (length holds) made numbers rest put stay),
         ),
       )

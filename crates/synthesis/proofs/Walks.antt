@@ -25,7 +25,7 @@ module _ (ops size : ℕ) (holds : List Held) where
         first = node ∷ [];
         others = nodes;
         all = refl;
-        marked = marked ∙ ap (λ mark. before ++ mark ∷ []) (ap (λ x. mark_of (state_of x)) (sym same) ∙ ap mark_of (sym h.1.2.state));
+        marked = marked ∙ ap (λ mark. before ++ mark ∷ []) (ap (λ x. mark_of (state_of x)) (sym same) ∙ ap mark_of (sym h.1.2));
         follow = subst (λ x. AreInPreorder ops size holds (children_of ops size x ++ remaining) nodes) same h.1.3;
       }
 
@@ -56,5 +56,5 @@ module _ (ops size : ℕ) (holds : List Held) where
   node_alone number (holdings.Refused t cause) remaining nodes before after unsplit h = h
   node_alone number (holdings.AtLimit t) remaining nodes before after unsplit h = h
   node_alone number holdings.Solved remaining nodes before after unsplit h = h
-  node_alone number (holdings.Waiting line program) remaining nodes before after unsplit h = h
+  node_alone number (holdings.Waiting line id) remaining nodes before after unsplit h = h
   node_alone number (holdings.Split line stamp first) remaining nodes before after unsplit h = absurd (unsplit line stamp first refl)

@@ -1,5 +1,7 @@
 -- What only private functions cite.
-pub mod Judging
+pub mod Judged
+pub mod Keeping
+pub mod Working
 pub mod Nodes
 pub mod Splitting
 pub mod Walking

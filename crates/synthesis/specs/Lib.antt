@@ -3,4 +3,5 @@ pub mod Answers
 pub mod BestFirst
 pub mod Spent
 pub mod Enough
+pub mod FreshWork
 pub mod Inner

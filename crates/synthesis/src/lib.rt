@@ -2,15 +2,15 @@
 //! rejected.
 //!
 //! Of specs/ read Search first, on the search at one size, then Answers, on the sizes in turn, BestFirst, on the search within
-//! bounds, and Spent, on what an answer shows where a budget or a limit was spent; specs/Inner has what the code holds on the way.
+//! bounds, FreshWork, on what a search need not do twice, and Spent, on what an answer shows where a budget or a limit was spent; specs/Inner has what the code holds on the way.
 #![tactic(auto)]
 
 mod fill;
-mod judgement;
 mod laws;
 mod newest;
 mod nodes;
 mod searcher;
+mod splitting;
 mod walk;
 
 pub use laws::{

@@ -1,14 +1,24 @@
-ghost use Rattle.std.specs.Prelude.{◌≡◌, None};
-ghost use Rattle.synthesis.specs.Search.{judged, or_else, solved_program, limited_at};
+ghost use Rattle.std.specs.Prelude.{◌≡◌, None, OnOk};
+ghost use Rattle.synthesis.specs.Search.{judged, or_else, limited_at};
 ghost use Rattle.synthesis.specs.Inner.Nodes.{IsEndingOf};
+ghost use Rattle.synthesis.specs.Inner.Judged.{verdict_of, found_in};
 
-use program_model::{Partial, Verdict};
+use flag_rules::OutOfMemory;
+use judgement::{Ends, Judgement};
+use program_model::Partial;
+
+/// A partial program whose runs all end with the goal met, after so many steps.
+#[derive(Debug, Drop)]
+pub(crate) struct Found {
+    pub program: Partial,
+    pub ends: Ends,
+}
 
 /// How a size ends the search.
 #[derive(Debug, Drop)]
 pub(crate) enum Ending {
-    /// A node with this program is solved.
-    Found(Partial),
+    /// A node is solved.
+    Solved(Found),
     /// A run on this instance is at its limit.
     RunSpent { t: u8 },
     /// A node waits, and the budget of splits is spent.
@@ -19,7 +29,7 @@ pub(crate) enum Ending {
 #[derive(Debug, Drop)]
 pub(crate) struct Newest {
     /// The program of the first one that is solved.
-    pub solved: Option<Partial>,
+    pub solved: Option<Found>,
     /// The instance of the first one that is at its limit.
     pub limited: Option<u8>,
 }
@@ -36,24 +46,34 @@ impl Newest {
         }
     }
 
-    /// One more node was made, of this program and with this verdict.
-    pub(crate) fn see(&mut self, program: &Partial, verdict: Verdict)
-        ensures solved { self.new.solved ≡ or_else self.old.solved (solved_program (judged verdict) program.now) }
-        ensures limited { self.new.limited ≡ or_else self.old.limited (limited_at (judged verdict)) }
+    /// One more node was made, of this program and judged so.
+    pub(crate) fn see(
+        &mut self,
+        program: &Partial,
+        judgement: &Judgement,
+    ) -> Result<(), OutOfMemory>
+        ensures solved { OnOk result (self.new.solved ≡ or_else self.old.solved (found_in program.now judgement.now)) }
+        ensures limited { OnOk result (self.new.limited ≡ or_else self.old.limited (limited_at (judged (verdict_of judgement.now)))) }
     {
-        match verdict {
-            Verdict::Solved if self.solved.is_none() => self.solved = Some(program.copy()),
-            Verdict::AtLimit { t } => self.limited = self.limited.or(Some(t)),
+        match judgement {
+            Judgement::Solved { ends } if self.solved.is_none() => {
+                self.solved = Some(Found {
+                    program: program.copy(),
+                    ends: ends.clone()?,
+                });
+            }
+            Judgement::AtLimit { t } => self.limited = self.limited.or(Some(*t)),
             _ => {}
         }
+        Ok(())
     }
 
     /// How they end the search, if they do.
     pub(crate) fn ending(self) -> Option<Ending>
         ensures { IsEndingOf self result }
     {
-        if let Some(program) = self.solved {
-            return Some(Ending::Found(program));
+        if let Some(found) = self.solved {
+            return Some(Ending::Solved(found));
         }
         let t = self.limited?;
         Some(Ending::RunSpent { t })

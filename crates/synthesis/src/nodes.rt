@@ -1,16 +1,20 @@
-ghost use Rattle.std.specs.Prelude.{◌≡◌, ◌+◌, ◌<◌, ◌≤◌, ◌≢◌, ◌^◌, [], IfOk, OnOk, All, IsTrue, ◌↔◌, map, length, ℕ, List};
+ghost use Rattle.std.specs.Prelude.{◌≡◌, ◌≢◌, ◌+◌, ◌*◌, ◌<◌, ◌≤◌, ◌^◌, [], ◌∷◌, ◌++◌, IsTrue, ◌↔◌, length, All, IsPermutation, OnOk, IsSome};
+ghost use Rattle.program_model.specs.declared.machine.TheConstants.{MAX_INSTANCES};
+ghost use Rattle.waiting_programs.specs.Programs.{kept_at};
 ghost use Rattle.synthesis.specs.Search.{mark_of};
-ghost use Rattle.synthesis.specs.Inner.Nodes.{state_of};
+ghost use Rattle.synthesis.specs.Inner.Nodes.{state_of, IsDecided, MOST_CHILDREN};
 ghost use Rattle.synthesis.specs.Inner.Splitting.{AreNumbers, IsHeldWaiting, TakesBest, AddsJudged};
+ghost use Rattle.synthesis.specs.Inner.Keeping.{KeepsRoot};
 
-use crate::judgement::Judgement;
-use evaluations::{ByKey, Compared};
+use evaluations::{ByKey, Compared, Key};
 use flag_rules::OutOfMemory;
 use frontier::Frontier;
-use program_model::{Cause, Partial, Verdict};
+use judgement::Judgement;
+use program_model::Cause;
 use refutation_tree::Mark;
 use std::alloc::Global;
 use std::mem;
+use waiting_programs::{WaitingId, WaitingPrograms};
 
 /// What is held of a node.
 #[derive(Debug, Drop)]
@@ -20,8 +24,8 @@ pub(crate) enum Held {
     /// The run on an instance is at its limit.
     AtLimit { t: u8 },
     Solved,
-    /// It waits to be split at a line of its program.
-    Waiting { line: u8, program: Box<Partial> },
+    /// It waits to be split at a line of its program, which is kept with its runs under a number.
+    Waiting { line: u8, id: WaitingId },
     /// It was split at a line, as the split of a number. Its children stand in a row, the first of them at a number.
     Split { line: u8, stamp: u32, first: u32 },
 }
@@ -54,31 +58,34 @@ fn mark_of_cause(t: u8, cause: Cause) -> Mark
     }
 }
 
-/// A node that is being split.
+/// A node that waited and is to be split: its line, and the number under which its program is kept.
 #[derive(Debug, Drop)]
-pub(crate) struct Parent {
+pub(crate) struct Best {
     pub line: u8,
-    pub program: Box<Partial>,
+    pub id: WaitingId,
 }
 
-/// The nodes of one size, by their numbers, and a frontier of those that wait.
+/// The nodes of one size, by their numbers, a frontier of those that wait, and the programs of these with their runs.
 #[derive(Drop)]
-pub(crate) struct Nodes {
+pub(crate) struct Nodes<C: Drop> {
     pub held: Vec<Held>,
     pub frontier: Frontier<ByKey>,
     pub compared: Compared,
+    pub programs: WaitingPrograms<C>,
 }
 
-impl Nodes {
+impl<C: Drop> Nodes<C> {
     /// No nodes.
-    pub(crate) fn new(alloc: Global) -> Nodes
+    pub(crate) fn new(alloc: Global, programs: WaitingPrograms<C>) -> Nodes<C>
         ensures held { result.held.items ≡ [] }
         ensures pairs { result.frontier.pairs ≡ [] }
+        ensures programs { result.programs ≡ programs }
     {
         Nodes {
             held: Vec::new(alloc),
             frontier: Frontier::new(alloc),
             compared: Compared::zero(),
+            programs,
         }
     }
 
@@ -89,42 +96,84 @@ impl Nodes {
         !self.frontier.is_empty()
     }
 
-    /// Adds a node, with the next number.
-    pub(crate) fn add(
-        &mut self,
-        alloc: Global,
-        program: Partial,
-        judgement: Judgement,
-    ) -> Result<(), OutOfMemory>
-        requires few { length self.old.held.items < 2 ^ 32 }
-        requires numbers { AreNumbers self.old.held.items self.old.frontier.pairs }
-        ensures { OnOk result (AddsJudged program judgement self.old.held.items self.new.held.items self.old.frontier.pairs self.new.frontier.pairs) }
+    /// Makes room for so many more nodes, each of which may wait with so many runs of its own.
+    pub(crate) fn reserve(&mut self, nodes: usize, runs: usize) -> Result<(), OutOfMemory>
+        requires nodes { nodes ≤ MOST_CHILDREN }
+        requires runs { runs ≤ MAX_INSTANCES }
+        ensures frontier { OnOk result (nodes ≤ self.new.frontier.spare) }
+        ensures room { OnOk result (nodes ≤ self.new.programs.room) }
+        ensures run_room { OnOk result (nodes * runs ≤ self.new.programs.run_room) }
+        ensures held { self.new.held.items ≡ self.old.held.items }
+        ensures pairs { self.new.frontier.pairs ≡ self.old.frontier.pairs }
+        ensures kept { self.new.programs.kept ≡ self.old.programs.kept }
     {
-        let number = self.held.len() as u32;
-        let held = match judgement.verdict {
-            Verdict::Refused { t, cause } => Held::Refused { t, cause },
-            Verdict::AtLimit { t } => Held::AtLimit { t },
-            Verdict::Solved => Held::Solved,
-            Verdict::Waiting { line } => {
-                self.frontier.reserve(1)?;
-                self.frontier
-                    .push(judgement.key, number, &mut self.compared);
-                Held::Waiting {
-                    line,
-                    program: Box::new(alloc, program)?,
-                }
-            }
-        };
+        self.held.reserve(nodes)?;
+        self.frontier.reserve(nodes)?;
+        self.programs.reserve(nodes, nodes * runs)
+    }
+
+    /// Adds a node, with the next number, that does not wait.
+    pub(crate) fn add_decided(&mut self, held: Held) -> Result<(), OutOfMemory>
+        requires { IsDecided held }
+        ensures held { OnOk result (self.new.held.items ≡ self.old.held.items ++ held ∷ []) }
+        ensures frontier { self.new.frontier ≡ self.old.frontier }
+        ensures programs { self.new.programs ≡ self.old.programs }
+    {
         self.held.push(held)?;
         Ok(())
     }
 
+    /// Adds a node, with the next number, that waits at a line and has a key; its program is kept under a number.
+    pub(crate) fn add_waiting(
+        &mut self,
+        line: u8,
+        key: Key,
+        id: WaitingId,
+    ) -> Result<(), OutOfMemory>
+        requires few { length self.old.held.items < 2 ^ 32 }
+        requires numbers { AreNumbers self.old.held.items self.old.frontier.pairs }
+        requires spare { 0 < self.old.frontier.spare }
+        ensures held { OnOk result (self.new.held.items ≡ self.old.held.items ++ Held.Waiting line id ∷ []) }
+        ensures pairs { OnOk result (IsPermutation ((key, length self.old.held.items) ∷ self.old.frontier.pairs) self.new.frontier.pairs) }
+        ensures spare { self.new.frontier.spare + 1 ≡ self.old.frontier.spare }
+        ensures programs { self.new.programs ≡ self.old.programs }
+    {
+        let number = self.held.len() as u32;
+        self.frontier.push(key, number, &mut self.compared);
+        self.held.push(Held::Waiting { line, id })?;
+        Ok(())
+    }
+
+    /// Adds the root of a size, which is judged so. Its program, which is kept under a number, is given up if it does not wait.
+    pub(crate) fn add_root(
+        &mut self,
+        judgement: Judgement,
+        id: WaitingId,
+    ) -> Result<(), OutOfMemory>
+        requires none { self.old.held.items ≡ [] }
+        requires no_pairs { self.old.frontier.pairs ≡ [] }
+        requires spare { 0 < self.old.frontier.spare }
+        requires kept { IsSome (kept_at self.old.programs.kept id) }
+        ensures adds { OnOk result (AddsJudged judgement [] self.new.held.items [] self.new.frontier.pairs) }
+        ensures keeps { OnOk result (KeepsRoot id self.new.held.items self.old.programs.kept self.new.programs.kept) }
+    {
+        let held = match judgement {
+            Judgement::Waiting { line, key } => return self.add_waiting(line, key, id),
+            Judgement::Refused { t, cause } => Held::Refused { t, cause },
+            Judgement::AtLimit { t } => Held::AtLimit { t },
+            Judgement::Solved { .. } => Held::Solved,
+        };
+        self.programs.release(id);
+        self.add_decided(held)
+    }
+
     /// Takes out the node that waits and has the least key and number, to be split: its children are to have the next numbers.
-    pub(crate) fn take_best(&mut self, stamp: u32) -> Parent
+    pub(crate) fn take_best(&mut self, stamp: u32) -> Best
         requires some { self.old.frontier.pairs ≢ [] }
         requires few { length self.old.held.items < 2 ^ 32 }
         requires waiting { All (λ pair. IsHeldWaiting self.old.held.items pair.1) self.old.frontier.pairs }
-        ensures { TakesBest stamp self.old.held.items self.new.held.items self.old.frontier.pairs self.new.frontier.pairs result }
+        ensures best { TakesBest stamp self.old.held.items self.new.held.items self.old.frontier.pairs self.new.frontier.pairs result }
+        ensures programs { self.new.programs ≡ self.old.programs }
     {
         let (_, number) = self.frontier.pop_least(&mut self.compared).unwrap();
         let first = self.held.len() as u32;
@@ -134,7 +183,7 @@ impl Nodes {
         };
         let line = *line;
         match mem::replace(held, Held::Split { line, stamp, first }) {
-            Held::Waiting { program, .. } => Parent { line, program },
+            Held::Waiting { id, .. } => Best { line, id },
             _ => unreachable!(),
         }
     }

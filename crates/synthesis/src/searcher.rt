@@ -1,29 +1,38 @@
-ghost use Rattle.std.specs.Prelude.{◌≡◌, ℕ, ◌+◌, ◌*◌, ◌<◌, ◌≤◌, ◌^◌, [], ◌∷◌, List as Sequence, length, IfOk, OnOk};
-ghost use Rattle.program_model.specs.Alphabet.{alphabet};
-ghost use Rattle.program_model.specs.Program.{IsPartial, IsOpen, IsInstr, with_line};
+ghost use Rattle.std.specs.Prelude.{◌≡◌, ℕ, ◌+◌, ◌<◌, ◌≤◌, ◌^◌, [], ◌∷◌, ◌++◌, List as Sequence, length, map, All, IsPermutation, IfOk, OnOk};
+ghost use Rattle.std.specs.List.{range_with_len};
+ghost use Rattle.program_model.specs.Program.{Program};
 ghost use Rattle.program_model.specs.declared.alphabet.TheConstants.{MAX_LINES};
+ghost use Rattle.program_model.specs.declared.machine.TheConstants.{MAX_INSTANCES};
+ghost use Rattle.interpreter.specs.Counts.{RaisedAtMost};
+ghost use Rattle.interpreter.specs.Runs.{IsRunOf};
+ghost use Rattle.run_turns.specs.Settling.{instances_of};
+ghost use Rattle.judgement.specs.Judging.{run_standing};
 ghost use Rattle.synthesis.specs.Search.{Node};
 ghost use Rattle.synthesis.specs.Answers.{Concludes, tree_of};
 ghost use Rattle.search_bounds.specs.Limits.{AreWithinLimits};
 ghost use Rattle.synthesis.specs.BestFirst.{best_first, IsBestFirstAnswer};
-ghost use Rattle.synthesis.specs.Inner.Nodes.{MOST_CHILDREN, AreInPreorder, LinksOn, IsSoundEnd, HasGrown, CanGrow, close_of, IsEndingOn, IsSearched};
-ghost use Rattle.synthesis.specs.Inner.Splitting.{AreNumbers, AddsNewest, AddsChildren};
+ghost use Rattle.synthesis.specs.FreshWork.{AreStandingSteps, fresh_operations, fresh_copies};
+ghost use Rattle.synthesis.specs.Inner.Nodes.{AreInPreorder, LinksOn, IsSoundEnd, HasGrown, close_of, IsEndingOn, IsSearched};
+ghost use Rattle.synthesis.specs.Inner.Working.{counts, HasWorkedFor};
 
 use crate::fill::filled;
-use crate::judgement::{ends_of, judge};
-use crate::newest::{Ending, Newest};
-use crate::nodes::{Nodes, Parent};
+use crate::newest::{Ending, Found, Newest};
+use crate::nodes::Nodes;
 use crate::walk::tree_of;
 use flag_rules::{List, OutOfMemory};
-use program_model::{Instr, Machine, Partial, alphabet_len, instr_at};
+use interpreter::Run;
+use judgement::{Standings, judge, standing};
+use program_model::{Machine, Partial};
 use refutation_tree::{Answer, Outcome, Tree};
 use search_bounds::Bounds;
 use std::alloc::Global;
+use waiting_programs::WaitingPrograms;
 
 /// Searches for a smallest program of at most so many lines that solves every instance of a machine.
 ///
 /// Sizes are tried from 1 on, and of the nodes of a size that wait, the best by the order is split first; of equally good ones
-/// the one that was made first. An error is want of memory alone.
+/// the one that was made first. A run that waits is kept where it stands, and all partial programs below share it. So no more operations and copies are counted
+/// at the meter than fresh ones. An error is want of memory alone.
 pub fn search<M: Machine>(
     alloc: Global,
     machine: &M,
@@ -31,7 +40,11 @@ pub fn search<M: Machine>(
     meter: &mut M::Meter,
 ) -> Result<Answer, OutOfMemory>
     requires { AreWithinLimits bounds.now }
-    ensures { IfOk result (λ answer. IsBestFirstAnswer (M.semantics machine.now) bounds.now answer) }
+    ensures answer { IfOk result (λ answer. IsBestFirstAnswer (M.semantics machine.now) bounds.now answer) }
+    ensures acts { IfOk result (λ answer. (reached : Program → ℕ → ℕ) → AreStandingSteps (M.semantics machine.now) bounds.now.run reached →
+        RaisedAtMost (fresh_operations (best_first (M.semantics machine.now) bounds.now) reached answer.trees) (M.acts meter.old) (M.acts meter.new)) }
+    ensures copies { IfOk result (λ answer. (reached : Program → ℕ → ℕ) → AreStandingSteps (M.semantics machine.now) bounds.now.run reached →
+        RaisedAtMost (fresh_copies (best_first (M.semantics machine.now) bounds.now) reached answer.trees) (M.copies meter.old) (M.copies meter.new)) }
 {
     let searcher = Searcher {
         alloc,
@@ -43,10 +56,10 @@ pub fn search<M: Machine>(
 
 /// A search over a machine, within bounds.
 #[derive(Drop)]
-struct Searcher<'a, M: Machine> {
-    alloc: Global,
-    machine: &'a M,
-    bounds: &'a Bounds,
+pub(crate) struct Searcher<'a, M: Machine> {
+    pub alloc: Global,
+    pub machine: &'a M,
+    pub bounds: &'a Bounds,
     ghost within: { AreWithinLimits bounds.now },
 }
 
@@ -60,10 +73,19 @@ pub(crate) struct Searched {
     pub ending: Option<Ending>,
 }
 
+/// A size of which the root alone was made.
+#[derive(Drop)]
+struct Start<C: Drop> {
+    nodes: Nodes<C>,
+    newest: Newest,
+}
+
 impl<M: Machine> Searcher<'_, M> {
     /// Searches the sizes in turn.
     fn search_sizes(&self, meter: &mut M::Meter) -> Result<Answer, OutOfMemory>
-        ensures { IfOk result (λ answer. IsBestFirstAnswer (M.semantics self.now.machine.now) self.now.bounds.now answer) }
+        ensures answer { IfOk result (λ answer. IsBestFirstAnswer (M.semantics self.now.machine.now) self.now.bounds.now answer) }
+        ensures worked { IfOk result (λ answer. HasWorkedFor (best_first (M.semantics self.now.machine.now) self.now.bounds.now) answer.trees
+            (counts (M.acts meter.old) (M.copies meter.old)) (counts (M.acts meter.new) (M.copies meter.new))) }
     {
         let mut trees = List::new(self.alloc);
         let mut stamp = 0;
@@ -76,7 +98,7 @@ impl<M: Machine> Searcher<'_, M> {
             } = self.search_size(size, stamp, meter)?;
             trees.push(tree)?;
             if let Some(ending) = ending {
-                return self.ended(size, ending, trees, meter);
+                return self.ended(size, ending, trees);
             }
             stamp = after;
         }
@@ -84,13 +106,7 @@ impl<M: Machine> Searcher<'_, M> {
     }
 
     /// The answer where a size ends the search.
-    fn ended(
-        &self,
-        size: u8,
-        ending: Ending,
-        trees: List<Tree>,
-        meter: &mut M::Meter,
-    ) -> Result<Answer, OutOfMemory>
+    fn ended(&self, size: u8, ending: Ending, trees: List<Tree>) -> Result<Answer, OutOfMemory>
         requires { IsEndingOn (best_first (M.semantics self.now.machine.now) self.now.bounds.now) ending }
         ensures pointers { IfOk result (λ answer. answer.pointers ≡ (M.semantics self.now.machine.now).pointers) }
         ensures asked { IfOk result (λ answer. answer.lines ≡ self.now.bounds.now.lines) }
@@ -101,10 +117,9 @@ impl<M: Machine> Searcher<'_, M> {
     {
         let none = List::new(self.alloc);
         match ending {
-            Ending::Found(program) => {
-                let run = self.bounds.run;
-                let ends = ends_of(self.alloc, self.machine, &program, run, meter)?;
+            Ending::Solved(Found { program, ends }) => {
                 let whole = filled(self.machine.ops(), &program);
+                let ends = List::from_vec(Vec::from_slice(self.alloc, ends.as_slice())?);
                 Ok(self.answer(trees, Outcome::Program { size }, Some(whole), ends))
             }
             Ending::RunSpent { t } => Ok(self.answer(
@@ -161,13 +176,14 @@ impl<M: Machine> Searcher<'_, M> {
         requires some { 0 < size }
         requires few { size ≤ self.now.bounds.now.lines }
         ensures searched { IfOk result (IsSearched (best_first (M.semantics self.now.machine.now) self.now.bounds.now)
-            self.now.bounds.now.budget size from) }
+            self.now.bounds.now.budget size from (counts (M.acts meter.old) (M.copies meter.old)) (counts (M.acts meter.new) (M.copies meter.new))) }
         ensures sound { IfOk result (λ searched.
             IsSoundEnd (best_first (M.semantics self.now.machine.now) self.now.bounds.now) searched.ending) }
     {
-        let mut nodes = Nodes::new(self.alloc);
-        let mut newest = Newest::none();
-        self.add_node(&mut nodes, Partial::empty(size), &mut newest, meter)?;
+        let Start {
+            mut nodes,
+            mut newest,
+        } = self.start(size, meter)?;
         let mut stamp = from;
         loop {
             if let Some(ending) = newest.ending() {
@@ -184,99 +200,68 @@ impl<M: Machine> Searcher<'_, M> {
         }
     }
 
-    /// Splits the best of the nodes that wait. What its children tell is given back.
-    fn split_best(
-        &self,
-        nodes: &mut Nodes,
-        stamp: u32,
-        meter: &mut M::Meter,
-    ) -> Result<Newest, OutOfMemory>
-        requires { (from size : ℕ) × CanGrow (best_first (M.semantics self.now.machine.now) self.now.bounds.now)
-            self.now.bounds.now.budget size from stamp nodes.old.held.items nodes.old.frontier.pairs }
-        ensures { IfOk result (λ newest. (from size : ℕ) →
-            CanGrow (best_first (M.semantics self.now.machine.now) self.now.bounds.now)
-            self.now.bounds.now.budget size from stamp nodes.old.held.items nodes.old.frontier.pairs →
-            HasGrown (best_first (M.semantics self.now.machine.now) self.now.bounds.now)
-            self.now.bounds.now.budget size from (stamp + 1) nodes.new.held.items nodes.new.frontier.pairs newest) }
+    /// The root of a size alone, and what it tells.
+    fn start(&self, size: u8, meter: &mut M::Meter) -> Result<Start<M::Cfg>, OutOfMemory>
+        requires some { 0 < size }
+        requires few { size ≤ MAX_LINES }
+        ensures { IfOk result (λ start. (budget from : ℕ) →
+            HasGrown (best_first (M.semantics self.now.machine.now) self.now.bounds.now) (M.belongs self.now.machine.now)
+            budget size from from start.nodes (counts (M.acts meter.old) (M.copies meter.old)) (counts (M.acts meter.new) (M.copies meter.new)) start.newest) }
     {
-        let parent = nodes.take_best(stamp);
-        self.add_children(nodes, &parent, meter)
-    }
-
-    /// Adds the children of a node that is split.
-    fn add_children(
-        &self,
-        nodes: &mut Nodes,
-        parent: &Parent,
-        meter: &mut M::Meter,
-    ) -> Result<Newest, OutOfMemory>
-        requires parent { IsPartial (M.semantics self.now.machine.now).ops parent.now.program.value }
-        requires line { IsOpen parent.now.program.value parent.now.line }
-        requires few { length nodes.old.held.items + MOST_CHILDREN < 2 ^ 32 }
-        requires numbers { AreNumbers nodes.old.held.items nodes.old.frontier.pairs }
-        ensures few { IfOk result (λ _. length nodes.new.held.items ≤ length nodes.old.held.items + MOST_CHILDREN) }
-        ensures adds { IfOk result (λ newest. AddsChildren (best_first (M.semantics self.now.machine.now) self.now.bounds.now)
-            parent.now.program.value parent.now.line
-            (alphabet (M.semantics self.now.machine.now).ops (length parent.now.program.value) parent.now.line)
-            nodes.old.held.items nodes.new.held.items nodes.old.frontier.pairs nodes.new.frontier.pairs newest) }
-    {
-        let ops = self.machine.ops();
-        let lines = parent.program.lines();
+        let program = Partial::empty(size);
+        let mut runs = self.fresh_runs()?;
+        let standings = self.standings_of(size, runs.as_slice());
+        let judgement = judge(
+            self.machine,
+            &program,
+            self.bounds,
+            standings,
+            runs.as_mut_slice(),
+            meter,
+        );
         let mut newest = Newest::none();
-        for rank in 0..alphabet_len(ops, lines, parent.line) {
-            let instr = instr_at(ops, lines, parent.line, rank);
-            self.add_child(nodes, parent, instr, &mut newest, meter)?;
+        newest.see(&program, &judgement)?;
+        let (programs, id) = WaitingPrograms::new(self.alloc, size, runs)?;
+        let mut nodes = Nodes::new(self.alloc, programs);
+        nodes.reserve(1, 0)?;
+        nodes.add_root(judgement, id)?;
+        Ok(Start { nodes, newest })
+    }
+
+    // A fresh run on each instance.
+    fn fresh_runs(&self) -> Result<Vec<Run<M::Cfg>>, OutOfMemory>
+        ensures instances { IfOk result (λ runs. instances_of runs.items ≡ range_with_len 0 (M.semantics self.now.machine.now).instances) }
+        ensures few { IfOk result (λ runs. length runs.items ≤ MAX_INSTANCES) }
+        ensures fresh { IfOk result (λ runs. All (λ run. run.marks.steps ≡ 0) runs.items) }
+        ensures runs { (program : Program) → IfOk result (λ runs.
+            All (IsRunOf (M.semantics self.now.machine.now) (M.belongs self.now.machine.now) program) runs.items) }
+    {
+        let mut runs = Vec::with_capacity(self.alloc, self.machine.instances() as usize)?;
+        for t in 0..self.machine.instances() {
+            runs.push(Run::fresh(self.alloc, self.machine, t)?)?;
         }
-        Ok(newest)
+        Ok(runs)
     }
 
-    /// Adds the child of a node for an instruction.
-    fn add_child(
-        &self,
-        nodes: &mut Nodes,
-        parent: &Parent,
-        instr: Instr,
-        newest: &mut Newest,
-        meter: &mut M::Meter,
-    ) -> Result<(), OutOfMemory>
-        requires parent { IsPartial (M.semantics self.now.machine.now).ops parent.now.program.value }
-        requires line { IsOpen parent.now.program.value parent.now.line }
-        requires instr { IsInstr (M.semantics self.now.machine.now).ops (length parent.now.program.value) parent.now.line instr }
-        requires few { length nodes.old.held.items < 2 ^ 32 }
-        requires numbers { AreNumbers nodes.old.held.items nodes.old.frontier.pairs }
-        ensures { OnOk result (AddsNewest (best_first (M.semantics self.now.machine.now) self.now.bounds.now)
-            (with_line parent.now.program.value parent.now.line instr)
-            nodes.old.held.items nodes.new.held.items nodes.old.frontier.pairs nodes.new.frontier.pairs newest.old newest.new) }
+    // Where runs of a program of so many lines stand.
+    fn standings_of(&self, lines: u8, runs: &[Run<M::Cfg>]) -> Standings
+        requires some { 0 < lines }
+        requires few { length runs.now ≤ MAX_INSTANCES }
+        requires runs { (program : Program) × All (IsRunOf (M.semantics self.now.machine.now) (M.belongs self.now.machine.now) program) runs.now }
+        ensures { result.items ≡ map (run_standing (M.semantics self.now.machine.now) lines) runs.now }
     {
-        let mut program = parent.program.copy();
-        program.define(parent.line, instr);
-        self.add_node(nodes, program, newest, meter)
-    }
-
-    /// Judges a program by its runs, and adds its node, which is seen among the newest.
-    fn add_node(
-        &self,
-        nodes: &mut Nodes,
-        program: Partial,
-        newest: &mut Newest,
-        meter: &mut M::Meter,
-    ) -> Result<(), OutOfMemory>
-        requires partial { IsPartial (M.semantics self.now.machine.now).ops program }
-        requires few { length nodes.old.held.items < 2 ^ 32 }
-        requires numbers { AreNumbers nodes.old.held.items nodes.old.frontier.pairs }
-        ensures { OnOk result (AddsNewest (best_first (M.semantics self.now.machine.now) self.now.bounds.now) program
-            nodes.old.held.items nodes.new.held.items nodes.old.frontier.pairs nodes.new.frontier.pairs newest.old newest.new) }
-    {
-        let judgement = judge(self.alloc, self.machine, &program, self.bounds, meter)?;
-        newest.see(&program, judgement.verdict);
-        nodes.add(self.alloc, program, judgement)
+        let mut standings = Standings::new();
+        for run in runs.iter() {
+            standings.push(standing(self.machine, lines, run));
+        }
+        standings
     }
 
     /// A size that is closed, with its tree.
     fn closed(
         &self,
         size: u8,
-        nodes: &Nodes,
+        nodes: &Nodes<M::Cfg>,
         stamp: u32,
         ending: Option<Ending>,
     ) -> Result<Searched, OutOfMemory>

@@ -1,15 +1,17 @@
 -- A split as the code makes it: the best node is taken out, and its children are added one after another.
 use Rattle.std.specs.Prelude.{◌≡◌, ◌⊎◌, ℕ, ◌+◌, ◌<◌, true, List, [], ◌∷◌, ◌++◌, length, slice_get, slice_set, All, Contains, IsPermutation, MatchBool, is_some, Some}
 use Rattle.program_model.specs.declared.instr.Instr.{Instr}
+use Rattle.program_model.specs.Semantics.{Semantics}
 use Rattle.program_model.specs.Program.{Program}
 use Rattle.evaluations.specs.Keys.{comes_before}
 use Rattle.synthesis.specs.declared.nodes.Held.{Held}
 use Rattle.synthesis.specs.declared.nodes.Held.TheVariants as holdings
-use Rattle.synthesis.specs.declared.nodes.Parent.{Parent}
-use Rattle.synthesis.specs.declared.judgement.Judgement.{Judgement}
+use Rattle.synthesis.specs.declared.nodes.Best.{Best}
+use Rattle.judgement.specs.declared.judging.Judgement.{Judgement}
 use Rattle.synthesis.specs.declared.newest.Newest.{Newest}
 use Rattle.synthesis.specs.Search.{Setting, Node, judged, waits_at, is_waiting, or_else, solved_program, limited_at, first_solved, first_limited, IsJudged, AreChildren}
-use Rattle.synthesis.specs.Inner.Nodes.{state_of, HoldsProgram, IsHeldOf, pair_of, IsWaitingPair}
+use Rattle.synthesis.specs.Inner.Judged.{verdict_of, key_in}
+use Rattle.synthesis.specs.Inner.Nodes.{state_of, IsHeldOf, pair_of, IsWaitingPair, program_in, AreEndsIn}
 
 -- the numbers of pairs are those of nodes that are held
 abbrev pub AreNumbers : List Held → List (List ℕ × ℕ) → Type 0
@@ -17,24 +19,23 @@ AreNumbers holds pairs = All (λ (pair : List ℕ × ℕ). pair.1 < length holds
 
 -- the node of a number is held as one that waits
 pub record IsHeldWaiting (holds : List Held) (number : ℕ) : Type 0 where
-  pub parent : Parent
-  pub here : slice_get holds number ≡ Some (holdings.Waiting parent.line parent.program)
+  pub best : Best
+  pub here : slice_get holds number ≡ Some (holdings.Waiting best.line best.id)
 
 -- the best of the nodes that wait is taken out and split: its children are to have the next numbers
-pub record TakesBest (stamp : ℕ) (holds after : List Held) (pairs left : List (List ℕ × ℕ)) (parent : Parent) : Type 0 where
+pub record TakesBest (stamp : ℕ) (holds after : List Held) (pairs left : List (List ℕ × ℕ)) (best : Best) : Type 0 where
   pub pair : List ℕ × ℕ
   pub taken : IsPermutation (pair ∷ left) pairs
   pub least : All (λ (other : List ℕ × ℕ). comes_before pair.0 pair.1 other.0 other.1 ≡ true) left
-  pub waited : slice_get holds pair.1 ≡ Some (holdings.Waiting parent.line parent.program)
-  pub split : after ≡ slice_set holds pair.1 (holdings.Split parent.line stamp (length holds))
+  pub waited : slice_get holds pair.1 ≡ Some (holdings.Waiting best.line best.id)
+  pub split : after ≡ slice_set holds pair.1 (holdings.Split best.line stamp (length holds))
 
 -- a node is added that is judged so: it is held with the next number, among those that wait if it does
-pub record AddsJudged (program : Program) (judgement : Judgement) (holds after : List Held) (pairs now : List (List ℕ × ℕ)) : Type 0 where
+pub record AddsJudged (judgement : Judgement) (holds after : List Held) (pairs now : List (List ℕ × ℕ)) : Type 0 where
   pub held : Held
-  pub state : state_of held ≡ judged judgement.verdict
-  pub program_held : HoldsProgram held program
+  pub state : state_of held ≡ judged (verdict_of judgement)
   pub pushed : after ≡ holds ++ held ∷ []
-  pub pairs_now : MatchBool (is_some (waits_at (judged judgement.verdict))) (IsPermutation ((judgement.key, length holds) ∷ pairs) now) (now ≡ pairs)
+  pub pairs_now : MatchBool (is_some (waits_at (judged (verdict_of judgement)))) (IsPermutation ((key_in judgement, length holds) ∷ pairs) now) (now ≡ pairs)
 
 -- the node of a program is judged and held with the next number, among those that wait if it does
 pub record AddsNode {C : Type 0} (s : Setting C) (program : Program) (holds after : List Held) (pairs now : List (List ℕ × ℕ)) : Type 0 where
@@ -49,15 +50,16 @@ pub record AddsNode {C : Type 0} (s : Setting C) (program : Program) (holds afte
   pub kept : (pair : List ℕ × ℕ) → Contains pairs pair → Contains now pair
   pub waits : is_waiting node ≡ true → Contains now (pair_of node)
 
--- the newest tell of one node more
-pub record SeesNode (node : Node) (before after : Newest) : Type 0 where
-  pub solved : after.solved ≡ or_else before.solved (solved_program node.state node.program)
+-- the newest tell of one node more, with the ends of its runs
+pub record SeesNode {C : Type 0} (m : Semantics C) (node : Node) (before after : Newest) : Type 0 where
+  pub solved : program_in after.solved ≡ or_else (program_in before.solved) (solved_program node.state node.program)
+  pub ends : AreEndsIn m before.solved → AreEndsIn m after.solved
   pub limited : after.limited ≡ or_else before.limited (limited_at node.state)
 
 -- a node of a program is added, and seen among the newest
 pub record AddsNewest {C : Type 0} (s : Setting C) (program : Program) (holds after : List Held) (pairs now : List (List ℕ × ℕ)) (before newest : Newest) : Type 0 where
   pub adds : AddsNode s program holds after pairs now
-  pub sees : SeesNode adds.node before newest
+  pub sees : SeesNode s.machine adds.node before newest
 
 -- the children for some instructions are added, with the numbers from one on, and seen among the newest
 pub record AddsChildren {C : Type 0} (s : Setting C) (parent : Program) (line : ℕ) (instrs : List Instr) (holds after : List Held) (pairs now : List (List ℕ × ℕ)) (newest : Newest) : Type 0 where
@@ -69,5 +71,6 @@ pub record AddsChildren {C : Type 0} (s : Setting C) (parent : Program) (line : 
   pub told : (pair : List ℕ × ℕ) → Contains now pair → Contains pairs pair ⊎ IsWaitingPair made pair
   pub kept : (pair : List ℕ × ℕ) → Contains pairs pair → Contains now pair
   pub waits : (node : Node) → Contains made node → is_waiting node ≡ true → Contains now (pair_of node)
-  pub solved : newest.solved ≡ first_solved made
+  pub solved : program_in newest.solved ≡ first_solved made
+  pub ends : AreEndsIn s.machine newest.solved
   pub limited : newest.limited ≡ first_limited made

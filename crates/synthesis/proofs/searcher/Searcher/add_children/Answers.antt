@@ -1,63 +1,85 @@
-use Rattle.std.proofs.Common.{List, length, take, refl, sym, subst, arith, length-take}
-use Rattle.program_model.specs.declared.instr.Instr.{Instr}
+use Rattle.std.proofs.Common.{◌≤◌, length, take, refl, sym, ◌∙◌, ap, subst, arith}
+use Rattle.std.specs.Prelude.{sum_by}
+use Rattle.std.proofs.lemmas.List.{take_all}
 use Rattle.program_model.specs.Alphabet.{alphabet}
+use Rattle.program_model.specs.Program.{with_line}
 use Rattle.program_model.proofs.Places.{contains_at}
+use Rattle.interpreter.specs.Counts.{RaisedAtMost}
 use Rattle.synthesis.specs.BestFirst.{best_first}
-use Rattle.synthesis.specs.Inner.Splitting.{AddsChildren}
+use Rattle.synthesis.specs.FreshWork.{operations_of_child, copies_of_child}
 use Rattle.synthesis.proofs.PlacesInLists.{take_seen}
-use Rattle.synthesis.proofs.Splits.{made_count}
-use Rattle.synthesis.proofs.AddedNodes.{few_instrs, no_children, one_more, still_numbered}
+use Rattle.synthesis.proofs.FreshRuns.{raised_none}
+use Rattle.synthesis.proofs.FreshWork.{split_operations, split_copies, split_more}
+use Rattle.synthesis.proofs.Keeping.{no_children_kept, children_kept_more}
+use Rattle.synthesis.proofs.AddedNodes.{no_children, one_more, still_numbered}
 use Rattle.synthesis.proofs.searcher.Searcher.add_children.Goals as goal
 
 pub loop-rank-init : goal.loop-rank-init
 loop-rank-init g c =
-    let s = best_first (g.M.Machine.semantics c.args.self.now.machine.now) c.args.self.now.bounds.now in
-    no_children s c.args.parent.now.program.value c.args.parent.now.line c.args.nodes.now.held.items c.args.nodes.now.frontier.pairs c.none-newest.result c.none-newest.ensures.solved c.none-newest.ensures.limited
+    let m = g.M.Machine.semantics c.args.self.now.machine.now in
+    let s = best_first m c.args.self.now.bounds.now in
+    let q = c.args.parent.now.program in
+    let line = c.args.parent.now.line in
+    let room = c.in_ok-reserve.ensures in (
+      rw (room.held, room.pairs) (no_children s q line c.args.nodes.now.held.items c.args.nodes.now.frontier.pairs c.none-newest.result c.none-newest.ensures.solved c.none-newest.ensures.limited),
+      rw (room.held, room.kept) (no_children_kept m (g.M.Machine.belongs c.args.self.now.machine.now) c.args.self.now.bounds.now.run q line c.args.nodes.now.held.items c.args.nodes.now.programs.kept),
+      λ reached steps. raised_none (g.M.Machine.acts c.args.meter.now),
+      λ reached steps. raised_none (g.M.Machine.copies c.args.meter.now),
+      omega (arith, room.frontier),
+      omega (arith, room.room),
+      let runs = rw c.instances.ensures.value at room.run_room in omega (arith, runs),
+    )
 
 pub add_child-requires-clause-instr : goal.add_child-requires-clause-instr
 add_child-requires-clause-instr g c =
-    let here = rw (c.ops-ops.ensures.value, c.lines-lines.ensures.count, c.deref.ensures) at c.instr_at-instr.ensures in
-    contains_at _ c.loop-rank.rank c.instr_at-instr.result here
-
-pub add_child-requires-clause-few : goal.add_child-requires-clause-few
-add_child-requires-clause-few g c =
-    let m = g.M.Machine.semantics c.args.self.now.machine.now in
-    let s = best_first m c.args.self.now.bounds.now in
-    let q = c.args.parent.now.program.value in
-    let instrs = alphabet m.ops (length q) c.args.parent.now.line in
-    let made = made_count s q c.args.parent.now.line (length c.args.nodes.now.held.items) (take c.loop-rank.rank instrs) c.loop-rank.invariant.made c.loop-rank.invariant.children in
-    let count = c.loop-rank.invariant.count in
-    let few = c.requires.few in
-    let line = c.requires.line.within in
-    let most = few_instrs c.ops-ops.result c.lines-lines.result c.args.parent.now.line c.alphabet_len-rank-end.result c.ops-ops.ensures.few (omega (arith, c.lines-lines.ensures.count, c.lines-lines.ensures.few)) (rw (c.lines-lines.ensures.count, c.deref.ensures) line) c.alphabet_len-rank-end.ensures.inner c.alphabet_len-rank-end.ensures.last in
-    omega (arith, made, count, few, most, length-take c.loop-rank.rank instrs, c.loop-rank-test.true)
+    contains_at _ c.loop-rank.rank c.instr_at-instr.result (rw (c.ops-ops.ensures.value, c.lines-lines.ensures.count) at c.instr_at-instr.ensures)
 
 pub add_child-requires-clause-numbers : goal.add_child-requires-clause-numbers
 add_child-requires-clause-numbers g c =
-    let m = g.M.Machine.semantics c.args.self.now.machine.now in
-    let s = best_first m c.args.self.now.bounds.now in
-    still_numbered s c.args.parent.now.program.value c.args.parent.now.line _ c.args.nodes.now.held.items c.loop-rank.nodes.held.items c.args.nodes.now.frontier.pairs c.loop-rank.nodes.frontier.pairs c.loop-rank.newest c.loop-rank.invariant c.requires.numbers
+    let s = best_first (g.M.Machine.semantics c.args.self.now.machine.now) c.args.self.now.bounds.now in
+    still_numbered s c.args.parent.now.program c.args.parent.now.line (take c.loop-rank.rank (alphabet s.machine.ops (length c.args.parent.now.program) c.args.parent.now.line)) c.args.nodes.now.held.items c.loop-rank.nodes.held.items c.args.nodes.now.frontier.pairs c.loop-rank.nodes.frontier.pairs c.loop-rank.newest c.loop-rank.invariant.0 c.requires.numbers
 
 pub loop-rank-preserved : goal.loop-rank-preserved
 loop-rank-preserved g c =
     let m = g.M.Machine.semantics c.args.self.now.machine.now in
     let s = best_first m c.args.self.now.bounds.now in
-    let q = c.args.parent.now.program.value in
-    let instrs = alphabet m.ops (length q) c.args.parent.now.line in
-    let here = rw (c.ops-ops.ensures.value, c.lines-lines.ensures.count, c.deref.ensures) at c.instr_at-instr.ensures in
-    subst (λ (ws : List Instr). AddsChildren s q c.args.parent.now.line ws c.args.nodes.now.held.items c.add_child.new.nodes.held.items c.args.nodes.now.frontier.pairs c.add_child.new.nodes.frontier.pairs c.add_child.new.newest)
-    (sym (take_seen instrs c.loop-rank.rank c.instr_at-instr.result here))
-    (one_more s q c.args.parent.now.line (λ instr. refl) (take c.loop-rank.rank instrs) c.instr_at-instr.result c.args.nodes.now.held.items c.loop-rank.nodes.held.items c.add_child.new.nodes.held.items c.args.nodes.now.frontier.pairs c.loop-rank.nodes.frontier.pairs c.add_child.new.nodes.frontier.pairs c.loop-rank.newest c.add_child.new.newest c.loop-rank.invariant c.in_ok-add_child.ensures)
+    let q = c.args.parent.now.program in
+    let line = c.args.parent.now.line in
+    let instr = c.instr_at-instr.result in
+    let before = take c.loop-rank.rank (alphabet m.ops (length q) line) in
+    let so_far = c.loop-rank.invariant in
+    let child = c.in_ok-add_child.ensures in
+    let seen = take_seen (alphabet m.ops (length q) line) c.loop-rank.rank instr (rw (c.ops-ops.ensures.value, c.lines-lines.ensures.count) at c.instr_at-instr.ensures) in
+    rw seen (
+      one_more s q line (λ one. refl) before instr c.args.nodes.now.held.items c.loop-rank.nodes.held.items c.add_child.new.nodes.held.items c.args.nodes.now.frontier.pairs c.loop-rank.nodes.frontier.pairs c.add_child.new.nodes.frontier.pairs c.loop-rank.newest c.add_child.new.newest so_far.0 child.adds,
+      children_kept_more m (g.M.Machine.belongs c.args.self.now.machine.now) c.args.self.now.bounds.now.run q line before instr c.args.nodes.now.held.items c.loop-rank.nodes.held.items c.add_child.new.nodes.held.items c.args.nodes.now.programs.kept c.loop-rank.nodes.programs.kept c.add_child.new.nodes.programs.kept so_far.1 child.keeps,
+      λ reached steps. split_more (λ one. operations_of_child s reached q line (with_line q line one)) before instr (g.M.Machine.acts c.args.meter.now) (g.M.Machine.acts c.loop-rank.meter) (g.M.Machine.acts c.add_child.new.meter) (so_far.2 reached steps) (child.acts reached steps),
+      λ reached steps. split_more (λ one. copies_of_child s reached q line (with_line q line one)) before instr (g.M.Machine.copies c.args.meter.now) (g.M.Machine.copies c.loop-rank.meter) (g.M.Machine.copies c.add_child.new.meter) (so_far.3 reached steps) (child.copies reached steps),
+      omega (arith, so_far.4, child.spare),
+      omega (arith, so_far.5, child.room),
+      omega (arith, so_far.6, child.run_room),
+    )
 
-pub returns-clause-few : goal.returns-clause-few
-returns-clause-few g c =
+pub returns-clause-acts : goal.returns-clause-acts
+returns-clause-acts g c = λ reached steps.
     let m = g.M.Machine.semantics c.args.self.now.machine.now in
-    let s = best_first m c.args.self.now.bounds.now in
-    let q = c.args.parent.now.program.value in
-    let instrs = alphabet m.ops (length q) c.args.parent.now.line in
-    let made = made_count s q c.args.parent.now.line (length c.args.nodes.now.held.items) (take c.loop-rank.rank instrs) c.loop-rank.invariant.made c.loop-rank.invariant.children in
-    let count = c.loop-rank.invariant.count in
-    let line = c.requires.line.within in
-    let most = few_instrs c.ops-ops.result c.lines-lines.result c.args.parent.now.line c.alphabet_len-rank-end.result c.ops-ops.ensures.few (omega (arith, c.lines-lines.ensures.count, c.lines-lines.ensures.few)) (rw (c.lines-lines.ensures.count, c.deref.ensures) line) c.alphabet_len-rank-end.ensures.inner c.alphabet_len-rank-end.ensures.last in
-    let whole = c.loop-rank.auto.rank-end in
-    omega (arith, made, count, most, whole, length-take c.loop-rank.rank instrs)
+    let bounds = c.args.self.now.bounds.now in
+    let q = c.args.parent.now.program in
+    let line = c.args.parent.now.line in
+    let count : length (alphabet c.ops-ops.result c.lines-lines.result line) ≤ c.loop-rank.rank = omega (arith, c.alphabet_len-children.ensures.length, c.loop-rank-test.false) in
+    let all = take_all c.loop-rank.rank (alphabet m.ops (length q) line) (rw (c.ops-ops.ensures.value, c.lines-lines.ensures.count) at count) in
+    subst (λ by. RaisedAtMost by (g.M.Machine.acts c.args.meter.now) (g.M.Machine.acts c.loop-rank.meter))
+    (ap (sum_by (λ one. operations_of_child (best_first m bounds) reached q line (with_line q line one))) all ∙ sym (split_operations m bounds reached q line))
+    (c.loop-rank.invariant.2 reached steps)
+
+pub returns-clause-copies : goal.returns-clause-copies
+returns-clause-copies g c = λ reached steps.
+    let m = g.M.Machine.semantics c.args.self.now.machine.now in
+    let bounds = c.args.self.now.bounds.now in
+    let q = c.args.parent.now.program in
+    let line = c.args.parent.now.line in
+    let count : length (alphabet c.ops-ops.result c.lines-lines.result line) ≤ c.loop-rank.rank = omega (arith, c.alphabet_len-children.ensures.length, c.loop-rank-test.false) in
+    let all = take_all c.loop-rank.rank (alphabet m.ops (length q) line) (rw (c.ops-ops.ensures.value, c.lines-lines.ensures.count) at count) in
+    subst (λ by. RaisedAtMost by (g.M.Machine.copies c.args.meter.now) (g.M.Machine.copies c.loop-rank.meter))
+    (ap (sum_by (λ one. copies_of_child (best_first m bounds) reached q line (with_line q line one))) all ∙ sym (split_copies m bounds reached q line))
+    (c.loop-rank.invariant.3 reached steps)
