@@ -21,6 +21,8 @@ mod faults;
 #[cfg(test)]
 mod files;
 #[cfg(test)]
+mod fresh_work;
+#[cfg(test)]
 mod given;
 #[cfg(test)]
 mod limits;

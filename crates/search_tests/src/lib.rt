@@ -28,3 +28,5 @@ mod searches;
 mod settling;
 #[cfg(test)]
 mod turns;
+#[cfg(test)]
+mod waiting;
