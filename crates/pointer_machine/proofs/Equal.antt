@@ -1,5 +1,5 @@
 -- When two operations are the same.
-use Rattle.std.proofs.Common.{◌≡◌, ℕ, ◌<◌, Bool, true, false, List, length, get_or, Some, None, Option, ◌∙◌, ap, Contains, MatchOption, arith}
+use Rattle.std.proofs.Common.{◌≡◌, ℕ, ◌<◌, true, false, List, length, get_or, Some, None, Option, ◌∙◌, ap, Contains, MatchOption, arith}
 use Rattle.std.specs.Prelude.{slice_get}
 use Rattle.std.specs.List.{AllWithin, HoldsAt}
 use Rattle.std.proofs.lemmas.Bool.{and_parts, eqb-true}
@@ -7,12 +7,8 @@ use Rattle.std.proofs.lemmas.Option.{slice_get-get_or}
 use Rattle.std.proofs.lemmas.Slice.Eq.{bytes_eq-Decides}
 use Rattle.pointer_machine.specs.declared.form.Form.{Form}
 use Rattle.pointer_machine.specs.declared.form.Form.TheVariants.{Act, Test, Inc, Dec, Clear, Set, Cmp}
-use Rattle.pointer_machine.specs.contracts.form.FormPartialEq.TheImpl as form_eq
+use Rattle.pointer_machine.specs.Renamed.{is_same}
 use Rattle.pointer_machine.specs.contracts.form.FormEq.TheImpl.Laws.{laws-law}
-
--- whether two operations are the same
-abbrev pub is_same : Form → Form → Bool
-is_same = (form_eq.ghosts).eq
 
 pub same_from_test : (one other : Form) → is_same one other ≡ true → one ≡ other
 same_from_test (Act schema args) (Act number pointers) h =

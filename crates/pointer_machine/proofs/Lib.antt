@@ -6,3 +6,7 @@ pub mod Values
 pub mod Once
 pub mod Equal
 pub mod OperationTexts
+pub mod Listed
+pub mod RenamedForms
+pub mod RenamedValues
+pub mod Symmetry

@@ -19,7 +19,7 @@ abbrev pub Once : {X : Type 0} → List X → Type 0
 Once {X} xs = (m n : ℕ) (x : X) → slice_get xs m ≡ Some x → slice_get xs n ≡ Some x → m ≡ n
 
 -- what holds of all items holds of the one at a place
-holds_at : {X : Type 0} (P : X → Type 0) (xs : List X) (n : ℕ) (x : X) → All P xs → slice_get xs n ≡ Some x → P x
+pub holds_at : {X : Type 0} (P : X → Type 0) (xs : List X) (n : ℕ) (x : X) → All P xs → slice_get xs n ≡ Some x → P x
 holds_at P xs n x each here = rw (get_or_from_slice_get xs n x x here) at (each n x (slice_get_within xs n x here))
 
 -- two lists with no item in common

@@ -36,6 +36,12 @@ initial_state task table fits = rw fits.made (
     rw objects (length-those_of (length fits.instance.objects) (arities_of task) fits.instance.init)
     )
 
+-- where all are at object 0, each is
+pub get_or-zeros : (n k : ℕ) → slice_index (replicate n 0) k ≡ 0
+get_or-zeros zero k = refl
+get_or-zeros (suc n) zero = refl
+get_or-zeros (suc n) (suc k) = get_or-zeros n k
+
 -- the start of an instance is one of its values, whatever the number of pointers
 start_is : (task : TaskParts) (table : Ground) (used : ℕ) → IsTableOf task table → IsValueOf table used (start table)
 start_is task table used fits = record {
@@ -44,11 +50,6 @@ start_is task table used fits = record {
   unused = λ pointer past. get_or-zeros MAX_POINTERS pointer;
   atoms = initial_state task table fits;
 }
-  where
-    get_or-zeros : (n k : ℕ) → slice_index (replicate n 0) k ≡ 0
-    get_or-zeros zero k = refl
-    get_or-zeros (suc n) zero = refl
-    get_or-zeros (suc n) (suc k) = get_or-zeros n k
 
 -- the pointed objects are objects of the instance
 pointed_low : (table : Ground) (value : Pointing) (args : List ℕ) → IsValueOf table MAX_POINTERS value → All (λ pointer. pointer < MAX_POINTERS) args → All (λ object. object < length table.object_types) (objects_at value.pointers args)

@@ -1,4 +1,5 @@
 pub mod Operations
+pub mod Renamed
 pub mod Meaning
 pub mod Texts
 pub mod Machine

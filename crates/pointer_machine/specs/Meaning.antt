@@ -12,6 +12,7 @@ use Rattle.pointer_machine.specs.declared.form.Form.{Form}
 use Rattle.pointer_machine.specs.declared.form.Form.TheVariants.{Act, Test, Inc, Dec, Clear, Set, Cmp}
 use Rattle.pointer_machine.specs.declared.pointing.Pointing.{Pointing}
 use Rattle.pointer_machine.specs.Operations.{operations_of}
+use Rattle.pointer_machine.specs.Renamed.{pointers_in, renamed_number, renamed_objects}
 
 -- the objects that some pointers stand at
 abbrev pub objects_at : List ℕ → List ℕ → List ℕ
@@ -78,7 +79,8 @@ start table = record { pointers = replicate MAX_POINTERS 0; sign = signs.Negativ
 abbrev pub table_at : List Ground → ℕ → Ground
 table_at tables t = slice_index_or tables t (record { object_types = []; arities = []; initial = []; goal = [] })
 
--- the machine over a task, the tables of its instances and so many pointers
+-- the machine over a task, the tables of its instances and so many pointers; a number past the last operation has no pointers, and
+-- renaming keeps it; a renamed value has the same sign and atoms
 abbrev pub meaning : TaskParts → List Ground → ℕ → Semantics Pointing
 meaning task tables pointers = record {
   instances = length tables;
@@ -88,6 +90,9 @@ meaning task tables pointers = record {
   act = λ t op value. value_after task (table_at tables t) (slice_get (operations_of task pointers) op) value;
   sign = λ (value : Pointing). value.sign;
   missing = λ t (value : Pointing). missing (table_at tables t).goal value.atoms;
+  pointers_of = λ op. slice_index_or (map pointers_in (operations_of task pointers)) op [];
+  rename = λ by op. slice_index_or (map (renamed_number (operations_of task pointers) by) (operations_of task pointers)) op op;
+  renamed = λ by (value : Pointing). record { pointers = renamed_objects by value.pointers; sign = value.sign; atoms = value.atoms };
 }
 
 -- the value is one of an instance, on a machine of so many pointers: each pointer is at an object of the instance, those past the

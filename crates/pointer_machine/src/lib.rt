@@ -1,6 +1,7 @@
 //! The machine over pointers, a sign and ground atoms, on which planning programs run. In `specs/` read `Operations`
-//! first, then `Meaning`, which says what each operation does and which values are those of an instance, and `Machine`;
-//! `Texts` says how operations are written. All of them is to be believed: no room is kept for private functions.
+//! first, then `Renamed`, which says what operations and values are over renamed pointers, `Meaning`, which says what
+//! each operation does and which values are those of an instance, and `Machine`; `Texts` says how operations are
+//! written. All of them is to be believed: no room is kept for private functions.
 #![tactic(auto)]
 
 mod form;
@@ -10,6 +11,7 @@ mod meter;
 mod operations;
 mod pointing;
 mod refusal;
+mod renamed;
 mod texts;
 
 pub use form::{Args, Form};

@@ -15,7 +15,7 @@ use crate::refusal::MachineRefusal;
 use crate::texts::texts_of;
 use flag_rules::{List, OutOfMemory, Sign, Text};
 use ground_state::{AtomTable, Task};
-use program_model::{MAX_OPS, Machine};
+use program_model::{MAX_OPS, Machine, Renaming};
 use std::alloc::Global;
 use std::marker::Model;
 
@@ -175,5 +175,23 @@ impl Machine for PointerMachine {
 
     fn copies(meter: &Meter) -> u64 {
         meter.copies
+    }
+
+    fn places(&self, op: u32) -> u8 {
+        self.form(op).places()
+    }
+
+    fn pointer_at(&self, op: u32, place: u8) -> u8 {
+        self.form(op).pointer_at(place)
+    }
+
+    fn rename(&self, by: &Renaming, op: u32) -> u32 {
+        let renamed = self.form(op).renamed(*self.forms.allocator(), by);
+        self.op_of(&renamed).unwrap()
+    }
+
+    fn treats_pointers_alike(&self) {
+        // reading a field tells that the parts are those of a machine
+        let _ = &self.tables;
     }
 }

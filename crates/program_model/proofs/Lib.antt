@@ -1,4 +1,5 @@
 pub mod Places
+pub mod Renamings
 pub mod Alphabets
 pub mod Runs
 pub mod Programs

@@ -1,6 +1,8 @@
 pub mod Alphabet
 pub mod Program
 pub mod Semantics
+pub mod Renaming
+pub mod Symmetry
 pub mod Run
 pub mod Standing
 pub mod Outcome

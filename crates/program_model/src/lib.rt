@@ -11,6 +11,7 @@ mod laws;
 mod machine;
 mod outcome;
 mod partial;
+mod renaming;
 mod standing;
 mod verdict;
 
@@ -22,5 +23,6 @@ pub use laws::{
 pub use machine::{MAX_INSTANCES, MAX_POINTERS, Machine};
 pub use outcome::RunOutcome;
 pub use partial::Partial;
+pub use renaming::Renaming;
 pub use standing::{MAX_RUN, Stand};
 pub use verdict::{Cause, Verdict};

@@ -1,8 +1,10 @@
-ghost use Rattle.std.specs.Prelude.{◌≡◌, ℕ, ◌<◌, ◌≤◌, ◌↔◌, IsTrue, IfOk};
+ghost use Rattle.std.specs.Prelude.{◌≡◌, ℕ, ◌<◌, ◌≤◌, ◌↔◌, length, slice_get, Some, IsTrue, IfOk};
 ghost use Rattle.program_model.specs.Semantics.{Semantics};
+ghost use Rattle.program_model.specs.Renaming.{IsRenamingOf};
+ghost use Rattle.program_model.specs.Symmetry.{IsSymmetric};
 ghost use Rattle.flag_rules.specs.Counts.{raised};
 
-use crate::MAX_OPS;
+use crate::{MAX_OPS, Renaming};
 use flag_rules::{OutOfMemory, Sign};
 use std::alloc::Global;
 
@@ -104,4 +106,27 @@ pub trait Machine {
     /// How many values were copied at a meter, up to the last value of the type.
     fn copies(meter: &Self::Meter) -> u64
         ensures { result ≡ copies meter.now };
+
+    /// How many pointers an operation names, counting one that it names twice twice.
+    fn places(&self, op: u32) -> u8
+        requires { op < (semantics self.now).ops }
+        ensures { result ≡ length ((semantics self.now).pointers_of op) };
+
+    /// The pointer that an operation names at a place, from 0.
+    fn pointer_at(&self, op: u32, place: u8) -> u8
+        requires op { op < (semantics self.now).ops }
+        requires place { place < length ((semantics self.now).pointers_of op) }
+        ensures value { slice_get ((semantics self.now).pointers_of op) place ≡ Some result }
+        ensures within { result < (semantics self.now).pointers };
+
+    /// The operation over renamed pointers.
+    fn rename(&self, by: &Renaming, op: u32) -> u32
+        requires op { op < (semantics self.now).ops }
+        requires by { IsRenamingOf (semantics self.now).pointers by.now }
+        ensures value { result ≡ (semantics self.now).rename by.now op }
+        ensures within { result < (semantics self.now).ops };
+
+    /// A law of each machine: it treats all of its pointers alike. The call does nothing.
+    fn treats_pointers_alike(&self)
+        ensures { IsSymmetric (semantics self.now) (belongs self.now) };
 }

@@ -1,6 +1,7 @@
 use Rattle.std.proofs.Common.{◌≡◌, true, false, rules, tests}
 use Rattle.std.proofs.lemmas.Iterator.{IsFirst-from_position, YieldsList-from_slice}
-use Rattle.pointer_machine.proofs.Equal.{is_same, found_at}
+use Rattle.pointer_machine.specs.Renamed.{is_same}
+use Rattle.pointer_machine.proofs.Equal.{found_at}
 use Rattle.pointer_machine.proofs.operations.place_of.Goals as goal
 
 pub returns : goal.returns
