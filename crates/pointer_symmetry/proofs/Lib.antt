@@ -1,0 +1,10 @@
+pub mod Orders
+pub mod Sets
+pub mod CanonicalForms
+pub mod CanonicalTwice
+pub mod Walks
+pub mod Lines
+pub mod Numberings
+pub mod Inverses
+pub mod RenamedRuns
+pub mod FairTwins
