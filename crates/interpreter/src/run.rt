@@ -94,16 +94,29 @@ impl<C: Drop> Run<C> {
         ensures acts { M.acts meter.new ≡ M.acts meter.old }
         ensures copies { RaisedAtMost 2 (M.copies meter.old) (M.copies meter.new) }
     {
-        let mut here = Configuration::first(alloc, machine, self.instance)?;
-        let mut marked = Configuration::first(alloc, machine, self.instance)?;
-        here.become_like(machine, &self.here, meter);
-        marked.become_like(machine, &self.marked, meter);
-        Ok(Run {
-            instance: self.instance,
-            here,
-            marked,
-            marks: self.marks,
-        })
+        let mut run = Run::fresh(alloc, machine, self.instance)?;
+        run.become_like(machine, self, meter);
+        Ok(run)
+    }
+
+    /// Makes it the same as another run on its instance, of whatever program. The values that it copies are counted at the
+    /// meter. No memory is taken.
+    pub fn become_like<M: Machine<Cfg = C>>(
+        &mut self,
+        machine: &M,
+        from: &Run<C>,
+        meter: &mut M::Meter,
+    )
+        requires run { (program : Program) × IsRunOf (M.semantics machine.now) (M.belongs machine.now) program self.old }
+        requires from { (program : Program) × IsRunOf (M.semantics machine.now) (M.belongs machine.now) program from.now }
+        requires instance { self.old.instance ≡ from.now.instance }
+        ensures same { self.new ≡ from.now }
+        ensures acts { M.acts meter.new ≡ M.acts meter.old }
+        ensures copies { RaisedAtMost 2 (M.copies meter.old) (M.copies meter.new) }
+    {
+        self.here.become_like(machine, &from.here, meter);
+        self.marked.become_like(machine, &from.marked, meter);
+        self.marks = from.marks;
     }
 
     // Whether the run stands once more in the marked configuration.

@@ -1,9 +1,9 @@
-ghost use Rattle.std.specs.Prelude.{◌≡◌, ◌⊎◌, ℕ, ◌<◌, ◌≤◌, max, map, filter_map, length, slice_get, IsSomeAnd};
+ghost use Rattle.std.specs.Prelude.{◌≡◌, ◌⊎◌, ℕ, ◌<◌, ◌≤◌, All, max, map, filter_map, length, slice_get, IsSomeAnd};
 ghost use Rattle.std.specs.List.{reduce};
 ghost use Rattle.program_model.specs.declared.standing.TheConstants.{MAX_RUN};
 ghost use Rattle.program_model.specs.Program.{IsPartial};
 ghost use Rattle.interpreter.specs.Counts.{RaisedAtMost};
-ghost use Rattle.run_turns.specs.Settling.{instances_of, HasInstance, AreRising, AreRunsOf, AreReached, operations_left, marks_left};
+ghost use Rattle.run_turns.specs.Settling.{instances_of, HasInstance, AreRising, AreRunsOf, HasSettled, AreReached, operations_left, marks_left};
 ghost use Rattle.judgement.specs.Judging.{IsSettledOn, IsJudgement, HaveSettledIn};
 
 use crate::standings::{MAX_RUNS, Standings, standing};
@@ -48,38 +48,36 @@ fn ends_of(standings: &Standings) -> Ends
     ends
 }
 
-/// The judgement on a partial program within the bounds of a search, from suspended runs of it, in rising order of their
-/// instances, which are brought to a verdict, and from where its runs on all other instances stand, each of which ended with the
-/// goal met, or waits. Of the standings those of the suspended runs are not looked at. No memory is taken.
-pub fn judge<M: Machine>(
+// The same standings once more.
+fn copy_of(standings: &Standings) -> Standings
+    ensures { result.items ≡ standings.now.items }
+{
+    let mut copy = Standings::new();
+    for standing in standings.iter() {
+        copy.push(*standing);
+    }
+    copy
+}
+
+// The judgement on a partial program of which all runs have settled, from suspended runs of it, and from where its runs on all
+// other instances stand.
+fn settled_judgement<M: Machine>(
     machine: &M,
     program: &Partial,
     bounds: &Bounds,
-    mut standings: Standings,
-    runs: &mut [Run<M::Cfg>],
-    meter: &mut M::Meter,
+    known: &Standings,
+    runs: &[Run<M::Cfg>],
 ) -> Judgement
     requires partial { IsPartial (M.semantics machine.now).ops program.now }
     requires limit { bounds.now.run ≤ MAX_RUN }
-    requires runs { AreRunsOf (M.semantics machine.now) (M.belongs machine.now) program.now bounds.now.run runs.old }
-    requires rising { AreRising runs.old }
-    requires all { length standings.items ≡ (M.semantics machine.now).instances }
-    requires known { (t : ℕ) → t < (M.semantics machine.now).instances → HasInstance runs.old t
-        ⊎ IsSomeAnd (slice_get standings.items t) (IsSettledOn (M.semantics machine.now) program.now bounds.now.run t) }
-    ensures judged { IsJudgement (M.semantics machine.now) bounds.now.order program.now bounds.now.run result }
-    ensures runs { AreRunsOf (M.semantics machine.now) (M.belongs machine.now) program.now bounds.now.run runs.new }
-    ensures instances { instances_of runs.new ≡ instances_of runs.old }
-    ensures settled { HaveSettledIn (M.semantics machine.now) program.now bounds.now.run runs.new result }
-    ensures acts { (reached : ℕ → ℕ) → AreReached (M.semantics machine.now) program.now bounds.now.run reached runs.old →
-        RaisedAtMost (operations_left (M.semantics machine.now) program.now reached runs.old) (M.acts meter.old) (M.acts meter.new) }
-    ensures copies { (reached : ℕ → ℕ) → AreReached (M.semantics machine.now) program.now bounds.now.run reached runs.old →
-        RaisedAtMost (marks_left reached runs.old) (M.copies meter.old) (M.copies meter.new) }
+    requires runs { AreRunsOf (M.semantics machine.now) (M.belongs machine.now) program.now bounds.now.run runs.now }
+    requires settled { All (HasSettled (M.semantics machine.now) program.now bounds.now.run) runs.now }
+    requires all { length known.now.items ≡ (M.semantics machine.now).instances }
+    requires known { (t : ℕ) → t < (M.semantics machine.now).instances → HasInstance runs.now t
+        ⊎ IsSomeAnd (slice_get known.now.items t) (IsSettledOn (M.semantics machine.now) program.now bounds.now.run t) }
+    ensures { IsJudgement (M.semantics machine.now) bounds.now.order program.now bounds.now.run result }
 {
-    match settle(machine, program, runs, bounds.run, meter) {
-        Verdict::Refused { t, cause } => return Judgement::Refused { t, cause },
-        Verdict::AtLimit { t } => return Judgement::AtLimit { t },
-        Verdict::Waiting { .. } | Verdict::Solved => {}
-    }
+    let mut standings = copy_of(known);
     for run in runs.iter() {
         standings[run.instance() as usize] = standing(machine, program.lines(), run);
     }
@@ -91,5 +89,41 @@ pub fn judge<M: Machine>(
         None => Judgement::Solved {
             ends: ends_of(&standings),
         },
+    }
+}
+
+/// The judgement on a partial program within the bounds of a search, from suspended runs of it, in rising order of their
+/// instances, which are brought to a verdict, and from where its runs on all other instances are known to stand, each of which
+/// ended with the goal met, or waits. Of what is known that of the suspended runs is not looked at. No memory is taken.
+pub fn judge<M: Machine>(
+    machine: &M,
+    program: &Partial,
+    bounds: &Bounds,
+    known: &Standings,
+    runs: &mut [Run<M::Cfg>],
+    meter: &mut M::Meter,
+) -> Judgement
+    requires partial { IsPartial (M.semantics machine.now).ops program.now }
+    requires limit { bounds.now.run ≤ MAX_RUN }
+    requires runs { AreRunsOf (M.semantics machine.now) (M.belongs machine.now) program.now bounds.now.run runs.old }
+    requires rising { AreRising runs.old }
+    requires all { length known.now.items ≡ (M.semantics machine.now).instances }
+    requires known { (t : ℕ) → t < (M.semantics machine.now).instances → HasInstance runs.old t
+        ⊎ IsSomeAnd (slice_get known.now.items t) (IsSettledOn (M.semantics machine.now) program.now bounds.now.run t) }
+    ensures judged { IsJudgement (M.semantics machine.now) bounds.now.order program.now bounds.now.run result }
+    ensures runs { AreRunsOf (M.semantics machine.now) (M.belongs machine.now) program.now bounds.now.run runs.new }
+    ensures instances { instances_of runs.new ≡ instances_of runs.old }
+    ensures settled { HaveSettledIn (M.semantics machine.now) program.now bounds.now.run runs.new result }
+    ensures acts { (reached : ℕ → ℕ) → AreReached (M.semantics machine.now) program.now bounds.now.run reached runs.old →
+        RaisedAtMost (operations_left (M.semantics machine.now) program.now reached runs.old) (M.acts meter.old) (M.acts meter.new) }
+    ensures copies { (reached : ℕ → ℕ) → AreReached (M.semantics machine.now) program.now bounds.now.run reached runs.old →
+        RaisedAtMost (marks_left reached runs.old) (M.copies meter.old) (M.copies meter.new) }
+{
+    match settle(machine, program, runs, bounds.run, meter) {
+        Verdict::Refused { t, cause } => Judgement::Refused { t, cause },
+        Verdict::AtLimit { t } => Judgement::AtLimit { t },
+        Verdict::Waiting { .. } | Verdict::Solved => {
+            settled_judgement(machine, program, bounds, known, runs)
+        }
     }
 }

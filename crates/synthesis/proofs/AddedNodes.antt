@@ -2,7 +2,7 @@
 use Rattle.std.proofs.Common.{◌≡◌, ◌⊎◌, ℕ, ◌+◌, ◌<◌, ◌≤◌, List, [], ◌∷◌, ◌++◌, length, Option, Some, None, Bool, true, false, refl, sym, ◌∙◌, ap, subst, inl, inr, arith, length-append}
 use Rattle.std.specs.Prelude.{Contains, slice_get, MatchBool, Result, Ok, Err, OnOk}
 use Rattle.std.proofs.lemmas.Result.{on_ok_weaker}
-use Rattle.std.proofs.lemmas.Bool.{cases_lt, MatchBool-at_true, MatchBool-at_false}
+use Rattle.std.proofs.lemmas.Bool.{cases_lt, true≢false, MatchBool-at_true, MatchBool-at_false}
 use Rattle.std.proofs.lemmas.Option.{none-some, same_Some, slice_get_within}
 use Rattle.std.proofs.lemmas.List.Elements.{All-contains, Contains-append_left, Contains-append_right, Contains-append_cases}
 use Rattle.std.proofs.lemmas.List.Sorted.{Contains-permutation, IsPermutation-sym}
@@ -12,6 +12,7 @@ use Rattle.program_model.specs.Program.{Program, empty, with_line}
 use Rattle.program_model.specs.Verdict.{IsVerdict}
 use Rattle.program_model.proofs.Places.{get-append_left, get-append_right, at_contains}
 use Rattle.synthesis.specs.declared.nodes.Held.{Held}
+use Rattle.synthesis.specs.declared.nodes.Held.TheVariants as holdings
 use Rattle.judgement.specs.declared.judging.Judgement.{Judgement}
 use Rattle.judgement.specs.declared.judging.Judgement.TheVariants as judgements
 use Rattle.judgement.specs.Judging.{IsJudgement}
@@ -22,7 +23,7 @@ use Rattle.synthesis.specs.Search.{Setting, judged, twin, Node, HasKey, is_waiti
 use Rattle.synthesis.specs.BestFirst.{best_first}
 use Rattle.synthesis.specs.Inner.Judged.{verdict_of, key_in, found_in}
 use Rattle.synthesis.specs.Inner.Nodes.{IsHeldOf, pair_of, IsWaitingPair, program_in, AreEndsIn}
-use Rattle.synthesis.specs.Inner.Splitting.{AreNumbers, AddsJudged, AddsNode, AddsNewest, AddsChildren}
+use Rattle.synthesis.specs.Inner.Splitting.{AreNumbers, AddsJudged, AddsNode, AddsNewest, AddsChild, AddsChildren}
 use Rattle.synthesis.proofs.Closing.{or_else_none}
 use Rattle.synthesis.proofs.Splits.{child_at, made_count}
 use Rattle.synthesis.proofs.WaitingPairs.{All-from-contains, contains_first, contains_later, contains_cases, contains_none}
@@ -75,12 +76,14 @@ module _ {C : Type 0} (m : Semantics C) (bounds : Bounds) (program : Program) (j
       numbered = refl;
       program_is = refl;
       is_judged = record { verdict = verdict_of judgement; is_verdict = verdict_told m bounds program judgement is_judgement; state = refl; key = key_told m bounds program judgement is_judgement };
-      held = adds.held;
-      is_held = sym adds.state;
-      pushed = adds.pushed;
-      told = told (is_waiting added) refl;
-      kept = kept (is_waiting added) refl;
-      waits = λ w. Contains-permutation (pair_of added ∷ pairs) now (pair_of added) (MatchBool-at_true _ _ w adds.pairs_now) (contains_first (pair_of added) pairs);
+      puts = record {
+        held = adds.held;
+        is_held = sym adds.state;
+        pushed = adds.pushed;
+        told = told (is_waiting added) refl;
+        kept = kept (is_waiting added) refl;
+        waits = λ w. Contains-permutation (pair_of added ∷ pairs) now (pair_of added) (MatchBool-at_true _ _ w adds.pairs_now) (contains_first (pair_of added) pairs);
+      };
     }
       where
         told : (b : Bool) → is_waiting added ≡ b → (pair : List ℕ × ℕ) → Contains now pair → Contains pairs pair ⊎ ((is_waiting added ≡ true) × (pair ≡ pair_of added))
@@ -163,26 +166,71 @@ module _ {C : Type 0} (s : Setting C) (parent : Program) (line : ℕ) where
       plain : (n : ℕ) → n ≡ n + 0
       plain n = omega arith
 
-  module _ (passes : (instr : Instr) → s.skips parent instr ≡ false) (instrs : List Instr) (instr : Instr) (holds mid after : List Held) (pairs left now : List (List ℕ × ℕ)) (newest later : Newest)
-      (adds : AddsChildren s parent line instrs holds mid pairs left newest) (one : AddsNewest s (with_line parent line instr) mid after left now newest later) where
+  -- ---- one child
+
+  module _ (instr : Instr) (holds after : List Held) (pairs now : List (List ℕ × ℕ)) (before newest : Newest) where
+    -- a child that is judged is one that is not passed over
+    pub judged_child : s.skips parent instr ≡ false → AddsNewest s (with_line parent line instr) holds after pairs now before newest → AddsChild s parent line instr holds after pairs now before newest
+    judged_child passes one = record {
+      node = one.adds.node;
+      is_child = record {
+        numbered = one.adds.numbered;
+        program = one.adds.program_is;
+        state = subst (λ b. MatchBool b ((one.adds.node.state ≡ twin) × (one.adds.node.key ≡ [])) (IsJudged s one.adds.node)) (sym passes) one.adds.is_judged;
+      };
+      puts = one.adds.puts;
+      sees = one.sees;
+    }
+
+    abbrev twin_child : Node
+    twin_child = record { number = length holds; program = with_line parent line instr; state = twin; key = [] }
+
+    -- a child that is passed over tells nothing
+    pub passed_child : s.skips parent instr ≡ true → after ≡ holds ++ holdings.Twin ∷ [] → now ≡ pairs → newest ≡ before → AddsChild s parent line instr holds after pairs now before newest
+    passed_child passed pushed same told = record {
+      node = twin_child;
+      is_child = record {
+        numbered = refl;
+        program = refl;
+        state = subst (λ b. MatchBool b ((twin_child.state ≡ twin) × (twin_child.key ≡ [])) (IsJudged s twin_child)) (sym passed) (refl, refl);
+      };
+      puts = record {
+        held = holdings.Twin;
+        is_held = refl;
+        pushed = pushed;
+        told = λ pair h. inl (subst (λ (ps : List (List ℕ × ℕ)). Contains ps pair) same h);
+        kept = λ pair h. subst (λ (ps : List (List ℕ × ℕ)). Contains ps pair) (sym same) h;
+        waits = λ w. absurd (true≢false (sym w));
+      };
+      sees = record {
+        solved = ap (λ (n : Newest). program_in n.solved) told ∙ sym (or_else_none (program_in before.solved));
+        ends = λ ends. subst (λ (n : Newest). AreEndsIn s.machine n.solved) (sym told) ends;
+        limited = ap (λ (n : Newest). n.limited) told ∙ sym (or_else_none before.limited);
+      };
+    }
+
+  -- ---- children in a row
+
+  module _ (instrs : List Instr) (instr : Instr) (holds mid after : List Held) (pairs left now : List (List ℕ × ℕ)) (newest later : Newest)
+      (adds : AddsChildren s parent line instrs holds mid pairs left newest) (one : AddsChild s parent line instr mid after left now newest later) where
     abbrev child : Node
-    child = one.adds.node
+    child = one.node
 
     is_child : IsChild s parent line (length holds + length instrs) instr child
     is_child = record {
-      numbered = one.adds.numbered ∙ adds.count ∙ ap (λ n. length holds + n) (made_count s parent line (length holds) instrs adds.made adds.children);
-      program = one.adds.program_is;
-      state = subst (λ b. MatchBool b ((child.state ≡ twin) × (child.key ≡ [])) (IsJudged s child)) (sym (passes instr)) one.adds.is_judged;
+      numbered = one.is_child.numbered ∙ adds.count ∙ ap (λ n. length holds + n) (made_count s parent line (length holds) instrs adds.made adds.children);
+      program = one.is_child.program;
+      state = one.is_child.state;
     }
 
     after_count : length after ≡ length mid + 1
-    after_count = ap length one.adds.pushed ∙ length-append mid (one.adds.held ∷ [])
+    after_count = ap length one.puts.pushed ∙ length-append mid (one.puts.held ∷ [])
 
     stays : (at : ℕ) (held : Held) → slice_get mid at ≡ Some held → slice_get after at ≡ Some held
-    stays at held e = ap (λ (hs : List Held). slice_get hs at) one.adds.pushed ∙ get-append_left mid (one.adds.held ∷ []) at (slice_get_within mid at held e) ∙ e
+    stays at held e = ap (λ (hs : List Held). slice_get hs at) one.puts.pushed ∙ get-append_left mid (one.puts.held ∷ []) at (slice_get_within mid at held e) ∙ e
 
-    put_last : slice_get after (length mid) ≡ Some one.adds.held
-    put_last = ap (λ (hs : List Held). slice_get hs (length mid)) one.adds.pushed ∙ get-append_right mid (one.adds.held ∷ []) 0 (length mid) (plain (length mid))
+    put_last : slice_get after (length mid) ≡ Some one.puts.held
+    put_last = ap (λ (hs : List Held). slice_get hs (length mid)) one.puts.pushed ∙ get-append_right mid (one.puts.held ∷ []) 0 (length mid) (plain (length mid))
       where
         plain : (n : ℕ) → n ≡ n + 0
         plain n = omega arith
@@ -203,7 +251,7 @@ module _ {C : Type 0} (s : Setting C) (parent : Program) (line : ℕ) where
             let same : child ≡ node = same_Some child node (sym (get-append_right adds.made (child ∷ []) 0 at place) ∙ e) in
             let count = adds.count in
             let number : length mid ≡ length holds + at = omega arith in
-            (one.adds.held, ap (slice_get after) (sym number) ∙ put_last, subst (λ (x : Node). IsHeldOf x one.adds.held) same one.adds.is_held)
+            (one.puts.held, ap (slice_get after) (sym number) ∙ put_last, subst (λ (x : Node). IsHeldOf x one.puts.held) same one.puts.is_held)
 
     pub one_more : AddsChildren s parent line (instrs ++ instr ∷ []) holds after pairs now later
     one_more = record {
@@ -212,8 +260,8 @@ module _ {C : Type 0} (s : Setting C) (parent : Program) (line : ℕ) where
       count = let was = adds.count in let now_count = after_count in omega (arith, length-append adds.made (child ∷ []));
       stay = λ at held e. stays at held (adds.stay at held e);
       put = put;
-      told = λ pair h. by_source pair (one.adds.told pair h);
-      kept = λ pair h. one.adds.kept pair (adds.kept pair h);
+      told = λ pair h. by_source pair (one.puts.told pair h);
+      kept = λ pair h. one.puts.kept pair (adds.kept pair h);
       waits = λ node h w. by_part node w (Contains-append_cases adds.made (child ∷ []) node h);
       solved = one.sees.solved ∙ ap (λ o. or_else o (solved_program child.state child.program)) adds.solved ∙ sym (first_solved_push adds.made child);
       ends = one.sees.ends adds.ends;
@@ -229,9 +277,9 @@ module _ {C : Type 0} (s : Setting C) (parent : Program) (line : ℕ) where
         by_source pair (inr h) = inr (record { node = child; here = Contains-append_right adds.made (child ∷ []) child (contains_first child []); waits = h.0; is = h.1 })
 
         by_part : (node : Node) → is_waiting node ≡ true → Contains adds.made node ⊎ Contains (child ∷ []) node → Contains now (pair_of node)
-        by_part node w (inl h) = one.adds.kept (pair_of node) (adds.waits node h w)
+        by_part node w (inl h) = one.puts.kept (pair_of node) (adds.waits node h w)
         by_part node w (inr h) = elim (contains_cases child [] node h) [
-          | inl same ↦ subst (λ (x : Node). Contains now (pair_of x)) same (one.adds.waits (ap is_waiting same ∙ w))
+          | inl same ↦ subst (λ (x : Node). Contains now (pair_of x)) same (one.puts.waits (ap is_waiting same ∙ w))
           | inr none ↦ absurd (contains_none node none)
         ]
 

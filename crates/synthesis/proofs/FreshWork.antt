@@ -1,12 +1,12 @@
 -- The fresh work of splits, as sums over the children of one, over the nodes of a size and over its tree.
-use Rattle.std.proofs.Common.{◌≡◌, ℕ, ◌+◌, false, List, [], ◌∷◌, ◌++◌, map, length, take, drop, refl, sym, ◌∙◌, ap, subst, inl, inr, arith}
+use Rattle.std.proofs.Common.{◌≡◌, ℕ, ◌+◌, true, false, List, [], ◌∷◌, ◌++◌, map, length, take, drop, refl, sym, ◌∙◌, ap, subst, inl, inr, arith}
 use Rattle.std.specs.Prelude.{not, filter, sum_by, slice_get, Some}
 use Rattle.std.proofs.lemmas.Bool.{cases_Bool, MatchBool-at_true, MatchBool-at_false}
 use Rattle.std.proofs.lemmas.List.{map-append}
-use Rattle.std.proofs.lemmas.List.Sums.{sum_by-cons, sum_by-append, sum_by_push}
+use Rattle.std.proofs.lemmas.List.Elements.{filter-append}
+use Rattle.std.proofs.lemmas.List.Sums.{sum_by-cons, sum_by-append}
 use Rattle.program_model.specs.declared.instr.Instr.{Instr}
 use Rattle.program_model.specs.Alphabet.{alphabet}
-use Rattle.program_model.specs.Semantics.{Semantics}
 use Rattle.program_model.specs.Program.{Program, with_line}
 use Rattle.program_model.specs.declared.verdict.Cause.TheVariants as causes
 use Rattle.program_model.specs.declared.verdict.Verdict.{Verdict}
@@ -16,11 +16,9 @@ use Rattle.refutation_tree.specs.declared.evidence.Mark.{Mark}
 use Rattle.refutation_tree.specs.declared.evidence.Tree.{Tree}
 use Rattle.refutation_tree.specs.Covers.{Child}
 use Rattle.refutation_tree.specs.Grammar.{child_programs}
-use Rattle.search_bounds.specs.declared.bounds.Bounds.{Bounds}
 use Rattle.synthesis.specs.Search.{Setting, State, judged, split, twin, Node, AreChildren, Close, SearchesSize, mark_of}
 use Rattle.synthesis.specs.Answers.{tree_of}
-use Rattle.synthesis.specs.BestFirst.{best_first}
-use Rattle.synthesis.specs.FreshWork.{AreStandingSteps, operations_of_child, copies_of_child, children_made, operations_of_split, copies_of_split, splits_in, splits_made}
+use Rattle.synthesis.specs.FreshWork.{AreStandingSteps, made_for, operations_of_split, copies_of_split, splits_in, splits_made}
 use Rattle.synthesis.specs.Inner.Working.{Counts, of_split, work_of, HasWorked, HasWorkedFor}
 use Rattle.synthesis.proofs.Lists.{split_at}
 use Rattle.synthesis.proofs.Growing.{followers, AreGrown, empty_alone, size_grown}
@@ -28,34 +26,34 @@ use Rattle.synthesis.proofs.FreshRuns.{raised_none, raised_twice}
 
 -- ---- the children of a split
 
-sum_of_map : {X Y : Type 0} (f : Y → ℕ) (sent : X → Y) (xs : List X) → sum_by f (map sent xs) ≡ sum_by (λ x. f (sent x)) xs
-sum_of_map f sent [] = refl
-sum_of_map f sent (x ∷ xs) =
-    sum_by-cons f (sent x) (map sent xs)
-    ∙ ap (λ n. f (sent x) + n) (sum_of_map f sent xs)
-    ∙ sym (sum_by-cons (λ x. f (sent x)) x xs)
+module _ {C : Type 0} (s : Setting C) (reached : Program → ℕ → ℕ) (q : Program) (line : ℕ) (work : Program → ℕ) where
+  -- the work of the children for some instructions, of those that are not passed over
+  abbrev work_for : List Instr → ℕ
+  work_for instrs = sum_by work (made_for s reached q line instrs)
 
-all_pass : {X : Type 0} (xs : List X) → filter (λ x. not false) xs ≡ xs
-all_pass [] = refl
-all_pass (x ∷ xs) = ap (λ ys. x ∷ ys) (all_pass xs)
+  abbrev kept : List Instr → List Instr
+  kept instrs = filter (λ instr. not (s.skips q instr)) instrs
 
-module _ {C : Type 0} (m : Semantics C) (bounds : Bounds) (reached : Program → ℕ → ℕ) (q : Program) (line : ℕ) where
-  -- no child is passed over
-  sum_of_children : (work : Program → ℕ) → sum_by work (children_made (best_first m bounds) reached q line) ≡ sum_by (λ instr. work (with_line q line instr)) (alphabet m.ops (length q) line)
-  sum_of_children work =
-      ap (λ instrs. sum_by work (map (with_line q line) instrs)) (all_pass (alphabet m.ops (length q) line))
-      ∙ sum_of_map work (with_line q line) (alphabet m.ops (length q) line)
+  work_of_both : (instrs others : List Instr) → work_for (instrs ++ others) ≡ work_for instrs + work_for others
+  work_of_both instrs others =
+      ap (λ is. sum_by work (map (with_line q line) is)) (filter-append (λ instr. not (s.skips q instr)) instrs others)
+      ∙ ap (sum_by work) (map-append (with_line q line) (kept instrs) (kept others))
+      ∙ sum_by-append work (map (with_line q line) (kept instrs)) (map (with_line q line) (kept others))
 
-  pub split_operations : operations_of_split (best_first m bounds) reached (q, line) ≡ sum_by (λ instr. operations_of_child (best_first m bounds) reached q line (with_line q line instr)) (alphabet m.ops (length q) line)
-  split_operations = sum_of_children (operations_of_child (best_first m bounds) reached q line)
+  -- one child more
+  pub split_more : (instrs : List Instr) (instr : Instr) (old mid new : ℕ) → RaisedAtMost (work_for instrs) old mid → RaisedAtMost (work_for (instr ∷ [])) mid new → RaisedAtMost (work_for (instrs ++ instr ∷ [])) old new
+  split_more instrs instr old mid new h k =
+      subst (λ by. RaisedAtMost by old new) (sym (work_of_both instrs (instr ∷ []))) (raised_twice (work_for instrs) (work_for (instr ∷ [])) old mid new h k)
 
-  pub split_copies : copies_of_split (best_first m bounds) reached (q, line) ≡ sum_by (λ instr. copies_of_child (best_first m bounds) reached q line (with_line q line instr)) (alphabet m.ops (length q) line)
-  split_copies = sum_of_children (copies_of_child (best_first m bounds) reached q line)
+  -- one that is passed over makes none, and any other its own
+  pub passed_work : (instr : Instr) (now : ℕ) → s.skips q instr ≡ true → RaisedAtMost (work_for (instr ∷ [])) now now
+  passed_work instr now passed = rw (passed) (raised_none now)
 
--- the work of one child more
-pub split_more : (work : Instr → ℕ) (instrs : List Instr) (instr : Instr) (old mid new : ℕ) → RaisedAtMost (sum_by work instrs) old mid → RaisedAtMost (work instr) mid new → RaisedAtMost (sum_by work (instrs ++ instr ∷ [])) old new
-split_more work instrs instr old mid new h k =
-    subst (λ by. RaisedAtMost by old new) (sym (sum_by_push work instrs instr)) (raised_twice (sum_by work instrs) (work instr) old mid new h k)
+  pub child_work : (instr : Instr) (old new : ℕ) → s.skips q instr ≡ false → RaisedAtMost (work (with_line q line instr)) old new → RaisedAtMost (work_for (instr ∷ [])) old new
+  child_work instr old new passes h = rw (passes) (subst (λ by. RaisedAtMost by old new) (plain (work (with_line q line instr))) h)
+    where
+      plain : (n : ℕ) → n ≡ sum_by (λ m. m) (n ∷ [])
+      plain n = omega arith
 
 module _ {C : Type 0} (s : Setting C) where
   -- ---- the nodes of a size

@@ -335,6 +335,7 @@ module _ {C : Type 0} (m : Semantics C) (belongs : ℕ → C → Type 0) (limit 
       | inr differs ↦ absurd (not_none (kept_at now other) some (ap (λ (ks : List (Option (Waiting C))). kept_at ks other) state.1 ∙ alone other differs))
     ]
     only_root (holdings.Split line stamp first) is state other some = absurd state
+    only_root holdings.Twin is state other some = absurd state
 
     root_is_kept : (node : Node) (line its_id : ℕ) → Contains (root ∷ []) node → slice_get after node.number ≡ Some (holdings.Waiting line its_id) → IsSomeAnd (kept_at now its_id) (IsKeptFor m belongs limit node.program)
     root_is_kept node line its_id among at =
@@ -350,6 +351,7 @@ module _ {C : Type 0} (m : Semantics C) (belongs : ℕ → C → Type 0) (limit 
     few_now holdings.Solved state = let none = none_counted now (nothing_now state) in omega arith
     few_now (holdings.Waiting line its_id) state = omega (arith, count, ap (λ (ks : List (Option (Waiting C))). kept_count ks) state.1)
     few_now (holdings.Split line stamp first) state = absurd state
+    few_now holdings.Twin state = absurd state
 
     pub root_kept : AreKept m belongs limit (root ∷ []) after now
     root_kept = record {

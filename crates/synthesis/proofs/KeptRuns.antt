@@ -44,12 +44,17 @@ module _ {C : Type 0} (m : Semantics C) (belongs : ℕ → C → Type 0) (limit 
   IsKept here = IsSomeAnd here (λ waiting. IsKeptFor m belongs limit waiting.program waiting)
 
   -- this is its run on an instance
-  abbrev IsRunAt : Option (Waiting C) → ℕ → Run C → Type 0
+  abbrev pub IsRunAt : Option (Waiting C) → ℕ → Run C → Type 0
   IsRunAt here t run = IfSome here (λ waiting. slice_get waiting.runs t ≡ Some run)
 
   pub is_some : (here : Option (Waiting C)) → IsKept here → IsSome here
   is_some None kept = absurd kept
   is_some (Some waiting) kept = refl
+
+  -- what holds of the program that is kept
+  pub of_kept : (P : Program → Type 0) (here : Option (Waiting C)) (program : Program) → IsKept here → IfSome here (λ waiting. P waiting.program) → IfSome here (λ waiting. program ≡ waiting.program) → P program
+  of_kept P None program kept holds is = absurd kept
+  of_kept P (Some waiting) program kept holds is = subst P (sym is) holds
 
   pub has_run : (here : Option (Waiting C)) (t : ℕ) → IsKept here → t < m.instances → IsSomeAnd here (λ waiting. t < length waiting.runs)
   has_run None t kept below = absurd kept

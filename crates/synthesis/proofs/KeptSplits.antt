@@ -12,6 +12,7 @@ use Rattle.interpreter.specs.Counts.{RaisedAtMost}
 use Rattle.judgement.specs.Judging.{run_standing}
 use Rattle.waiting_programs.specs.Programs.{Waiting, kept_at, kept_count, Becomes}
 use Rattle.refutation_tree.proofs.Lists.{each_at}
+use Rattle.pointer_symmetry.specs.Used.{AreUsed}
 use Rattle.synthesis.specs.declared.nodes.Held.{Held}
 use Rattle.synthesis.specs.declared.nodes.Best.{Best}
 use Rattle.synthesis.specs.declared.nodes.Nodes.{Nodes}
@@ -126,6 +127,10 @@ module _ {C : Type 0} {s : Setting C} {belongs : ℕ → C → Type 0} {budget s
       let is_kept = kept_so.2 in
       rw (kept_so.1) (subst (λ q. IsKeptFor s.machine belongs s.limit q waiting) (sym is_kept.program) is_kept)
 
+  -- it is a partial program
+  pub best_partial : IfSome (kept_at old.programs.kept best.id) (λ waiting. IsPartial s.machine.ops waiting.program)
+  best_partial = rw (kept_so.1) (subst (IsPartial s.machine.ops) (sym kept_so.2.program) (node_sized can.all.are_held takes).1)
+
   -- so it is still where what was kept is kept
   pub still_kept : (now : List (Option (Waiting C))) → AllStay s.machine belongs s.limit old.programs.kept now → IsSome (kept_at now best.id)
   still_kept now stay =
@@ -136,13 +141,14 @@ module _ {C : Type 0} {s : Setting C} {belongs : ℕ → C → Type 0} {budget s
     pub parent_program : parent.program ≡ parted.program
     parent_program = (rw (kept_so.1) at program) ∙ kept_so.2.program
 
-    pub is_parent : parent.id ≡ best.id → parent.line ≡ best.line → IfSome (kept_at old.programs.kept best.id) (λ waiting. parent.standings.items ≡ map (run_standing s.machine (length waiting.program)) waiting.runs) → IsParent s.machine belongs s.limit old.programs.kept parent
-    is_parent id line standings =
+    pub is_parent : parent.id ≡ best.id → parent.line ≡ best.line → AreUsed s.machine parent.program parent.used → IfSome (kept_at old.programs.kept best.id) (λ waiting. parent.standings.items ≡ map (run_standing s.machine (length waiting.program)) waiting.runs) → IsParent s.machine belongs s.limit old.programs.kept parent
+    is_parent id line used standings =
         let same = parent_program in
         let standings_at = rw (kept_so.1) at standings in
         record {
           partial = subst (IsPartial s.machine.ops) (sym same) (node_sized can.all.are_held takes).1;
           is_open = rw (same, line) (node_open can.all.are_held takes);
+          used = used;
           waiting = kept_so.0;
           here = ap (kept_at old.programs.kept) id ∙ kept_so.1;
           is_kept = subst (λ q. IsKeptFor s.machine belongs s.limit q kept_so.0) (sym same) kept_so.2;

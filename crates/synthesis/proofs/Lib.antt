@@ -33,3 +33,4 @@ pub mod KeptRuns
 pub mod Keeping
 pub mod ChildRuns
 pub mod Starting
+pub mod Drafts

@@ -23,6 +23,7 @@ module _ (ops size : ℕ) where
   unsplit_alone holdings.Solved h = refl
   unsplit_alone (holdings.Waiting line id) h = refl
   unsplit_alone (holdings.Split line stamp first) h = absurd h
+  unsplit_alone holdings.Twin h = refl
 
   module _ (holds after : List Held) (number : ℕ) (others : (at : ℕ) (held : Held) → at ≢ number → slice_get holds at ≡ Some held → slice_get after at ≡ Some held) where
     -- nodes none of which has the number are held as before

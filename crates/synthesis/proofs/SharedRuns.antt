@@ -54,7 +54,7 @@ module _ {C : Type 0} (count : ℕ) where
   many runs on_each = sym (length-map runs (λ (run : Run C). run.instance)) ∙ ap (λ (ts : List ℕ). length ts) on_each ∙ length-range_with_len 0 count
 
   -- the run at a place is on that instance
-  placed : (runs : List (Run C)) → instances_of runs ≡ range_with_len 0 count → (k : ℕ) (d : Run C) → k < length runs → (get_or runs k d).instance ≡ k
+  pub placed : (runs : List (Run C)) → instances_of runs ≡ range_with_len 0 count → (k : ℕ) (d : Run C) → k < length runs → (get_or runs k d).instance ≡ k
   placed runs on_each k d lt =
       let size = many runs on_each in
       let at : get_or (range_with_len 0 count) k 0 ≡ 0 + k = get_or-range_with_len 0 count k 0 (omega arith) in

@@ -41,21 +41,21 @@ module _ {C : Type 0} (s : Setting C) (budget size from : ℕ) (some : 0 < size)
       let adds = one.adds in
       let root = adds.node in
       let holds = only.held.items in
-      let unsplit : IsUnsplit (state_of adds.held) = subst IsUnsplit (sym adds.is_judged.state ∙ adds.is_held) tt in
+      let unsplit : IsUnsplit (state_of adds.puts.held) = subst IsUnsplit (sym adds.is_judged.state ∙ adds.puts.is_held) tt in
       record {
         nodes = root ∷ [];
         all = record {
           are_held = record {
             some = some;
             come = record { root = root; is_root = record { number = adds.numbered; program = adds.program_is; is_judged = adds.is_judged }; leads = here };
-            preorder = (adds.numbered, (adds.held, ap (λ (hs : List Held). slice_get hs 0) adds.pushed, adds.is_held, subst (λ (ks : List ℕ). AreInPreorder s.machine.ops size holds (ks ++ []) []) (sym (unsplit_alone s.machine.ops size adds.held unsplit)) tt));
-            count = ap length adds.pushed;
-            links = λ number line stamp first e. absurd (no_split unsplit number line stamp first (sym (ap (λ (hs : List Held). slice_get hs number) adds.pushed) ∙ e));
-            few = let count = ap length adds.pushed in omega arith;
+            preorder = (adds.numbered, (adds.puts.held, ap (λ (hs : List Held). slice_get hs 0) adds.puts.pushed, adds.puts.is_held, subst (λ (ks : List ℕ). AreInPreorder s.machine.ops size holds (ks ++ []) []) (sym (unsplit_alone s.machine.ops size adds.puts.held unsplit)) tt));
+            count = ap length adds.puts.pushed;
+            links = λ number line stamp first e. absurd (no_split unsplit number line stamp first (sym (ap (λ (hs : List Held). slice_get hs number) adds.puts.pushed) ∙ e));
+            few = let count = ap length adds.puts.pushed in omega arith;
             waiting = record {
-              told = λ pair h. by_source pair (adds.told pair h);
+              told = λ pair h. by_source pair (adds.puts.told pair h);
               each = λ node h w. elim (contains_cases root [] node h) [
-                | inl same ↦ subst (λ (x : Node). Contains only.frontier.pairs (pair_of x)) same (adds.waits (ap is_waiting same ∙ w))
+                | inl same ↦ subst (λ (x : Node). Contains only.frontier.pairs (pair_of x)) same (adds.puts.waits (ap is_waiting same ∙ w))
                 | inr k ↦ absurd (contains_none node k)
               ];
             };
@@ -70,8 +70,8 @@ module _ {C : Type 0} (s : Setting C) (budget size from : ℕ) (some : 0 < size)
         };
       }
     where
-      no_split : IsUnsplit (state_of one.adds.held) → (number line stamp first : ℕ) → slice_get (one.adds.held ∷ []) number ≡ Some (holdings.Split line stamp first) → ⊥
-      no_split unsplit zero line stamp first e = subst IsUnsplit (ap state_of (same_Some one.adds.held (holdings.Split line stamp first) e)) unsplit
+      no_split : IsUnsplit (state_of one.adds.puts.held) → (number line stamp first : ℕ) → slice_get (one.adds.puts.held ∷ []) number ≡ Some (holdings.Split line stamp first) → ⊥
+      no_split unsplit zero line stamp first e = subst IsUnsplit (ap state_of (same_Some one.adds.puts.held (holdings.Split line stamp first) e)) unsplit
       no_split unsplit (suc number) line stamp first e = absurd (none-some (holdings.Split line stamp first) e)
 
       by_source : (pair : List ℕ × ℕ) → Contains [] pair ⊎ ((is_waiting one.adds.node ≡ true) × (pair ≡ pair_of one.adds.node)) → IsWaitingPair (one.adds.node ∷ []) pair

@@ -139,6 +139,7 @@ is_held_waiting node held h w = by_held held (ap is_some (ap waits_at (sym h)) �
     by_held holdings.Solved e = absurd (true≢false (sym e))
     by_held (holdings.Waiting line id) e = (record { line = line; id = id }, refl)
     by_held (holdings.Split line stamp first) e = absurd (true≢false (sym e))
+    by_held holdings.Twin e = absurd (true≢false (sym e))
 
 -- ---- the split
 

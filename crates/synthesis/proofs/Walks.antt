@@ -58,3 +58,4 @@ module _ (ops size : ℕ) (holds : List Held) where
   node_alone number holdings.Solved remaining nodes before after unsplit h = h
   node_alone number (holdings.Waiting line id) remaining nodes before after unsplit h = h
   node_alone number (holdings.Split line stamp first) remaining nodes before after unsplit h = absurd (unsplit line stamp first refl)
+  node_alone number holdings.Twin remaining nodes before after unsplit h = h

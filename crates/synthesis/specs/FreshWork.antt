@@ -2,6 +2,7 @@
 -- one that is split, or has ended, does nothing more in a child.
 use Rattle.std.specs.Prelude.{ℕ, ◌+◌, ◌-◌, ◌<◌, ◌==◌, Bool, false, not, List, [], ◌∷◌, ◌++◌, map, filter, sum_by, length, Option, Some, None}
 use Rattle.std.specs.List.{range_with_len}
+use Rattle.program_model.specs.declared.instr.Instr.{Instr}
 use Rattle.program_model.specs.declared.standing.Stand.{Stand}
 use Rattle.program_model.specs.Alphabet.{alphabet}
 use Rattle.program_model.specs.Semantics.{Semantics}
@@ -40,9 +41,13 @@ module _ {C : Type 0} (s : Setting C) (reached : Program → ℕ → ℕ) where
   abbrev pub copies_of_child : Program → ℕ → Program → ℕ
   copies_of_child q line child = sum_by (λ t. 2 + marks_between (reached q t) (reached child t)) (instances_waiting_at q line)
 
+  -- of the children for some instructions, those that are not passed over
+  abbrev pub made_for : Program → ℕ → List Instr → List Program
+  made_for q line instrs = map (with_line q line) (filter (λ instr. not (s.skips q instr)) instrs)
+
   -- the children of a split that are not passed over
   abbrev pub children_made : Program → ℕ → List Program
-  children_made q line = map (with_line q line) (filter (λ instr. not (s.skips q instr)) (alphabet s.machine.ops (length q) line))
+  children_made q line = made_for q line (alphabet s.machine.ops (length q) line)
 
   abbrev pub operations_of_split : Program × ℕ → ℕ
   operations_of_split at_line = sum_by (operations_of_child at_line.0 at_line.1) (children_made at_line.0 at_line.1)

@@ -1,4 +1,4 @@
-ghost use Rattle.std.specs.Prelude.{◌≡◌, None, OnOk};
+ghost use Rattle.std.specs.Prelude.{◌≡◌, None, IfOk, OnOk};
 ghost use Rattle.synthesis.specs.Search.{judged, or_else, limited_at};
 ghost use Rattle.synthesis.specs.Inner.Nodes.{IsEndingOf};
 ghost use Rattle.synthesis.specs.Inner.Judged.{verdict_of, found_in};
@@ -12,6 +12,18 @@ use program_model::Partial;
 pub(crate) struct Found {
     pub program: Partial,
     pub ends: Ends,
+}
+
+impl Found {
+    // A copy of the program, with the ends of its runs.
+    fn of(program: &Partial, ends: &Ends) -> Result<Found, OutOfMemory>
+        ensures { IfOk result (λ found. found ≡ record { program = program.now; ends = ends.now }) }
+    {
+        Ok(Found {
+            program: program.copy(),
+            ends: ends.clone()?,
+        })
+    }
 }
 
 /// How a size ends the search.
@@ -57,10 +69,7 @@ impl Newest {
     {
         match judgement {
             Judgement::Solved { ends } if self.solved.is_none() => {
-                self.solved = Some(Found {
-                    program: program.copy(),
-                    ends: ends.clone()?,
-                });
+                self.solved = Some(Found::of(program, ends)?);
             }
             Judgement::AtLimit { t } => self.limited = self.limited.or(Some(*t)),
             _ => {}

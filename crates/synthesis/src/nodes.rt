@@ -28,6 +28,8 @@ pub(crate) enum Held {
     Waiting { line: u8, id: WaitingId },
     /// It was split at a line, as the split of a number. Its children stand in a row, the first of them at a number.
     Split { line: u8, stamp: u32, first: u32 },
+    /// It is a twin, and is passed over.
+    Twin,
 }
 
 impl Held {
@@ -44,6 +46,7 @@ impl Held {
                 line: *line,
                 stamp: *stamp,
             },
+            Held::Twin => Mark::Twin,
         }
     }
 }

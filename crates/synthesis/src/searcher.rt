@@ -31,8 +31,9 @@ use waiting_programs::WaitingPrograms;
 /// Searches for a smallest program of at most so many lines that solves every instance of a machine.
 ///
 /// Sizes are tried from 1 on, and of the nodes of a size that wait, the best by the order is split first; of equally good ones
-/// the one that was made first. A run that waits is kept where it stands, and all partial programs below share it. So no more operations and copies are counted
-/// at the meter than fresh ones. An error is want of memory alone.
+/// the one that was made first. Children that are twins are marked so and passed over: no run is made for them. A run that waits is kept where it stands, and all
+/// partial programs below share it. So no more operations and copies are counted at the meter than fresh ones. An error is want of
+/// memory alone.
 pub fn search<M: Machine>(
     alloc: Global,
     machine: &M,
@@ -215,7 +216,7 @@ impl<M: Machine> Searcher<'_, M> {
             self.machine,
             &program,
             self.bounds,
-            standings,
+            &standings,
             runs.as_mut_slice(),
             meter,
         );

@@ -1,5 +1,5 @@
 -- How the programs of the nodes that wait are kept, with their runs.
-use Rattle.std.specs.Prelude.{◌≡◌, ◌⊎◌, ℕ, ◌+◌, ◌≤◌, ◌==◌, List, [], ◌∷◌, ◌++◌, length, map, filter, All, Contains, slice_get, Option, Some, None, IsSome, IsSomeAnd}
+use Rattle.std.specs.Prelude.{◌≡◌, ◌⊎◌, ℕ, ◌+◌, ◌≤◌, ◌==◌, List, [], ◌∷◌, ◌++◌, length, map, filter, All, Contains, slice_get, Option, Some, None, IsSome, IfSome, IsSomeAnd}
 use Rattle.std.specs.List.{range_with_len}
 use Rattle.program_model.specs.declared.instr.Instr.{Instr}
 use Rattle.program_model.specs.Semantics.{Semantics}
@@ -9,14 +9,23 @@ use Rattle.interpreter.specs.Runs.{IsRunOf}
 use Rattle.run_turns.specs.Settling.{instances_of, HasSettled}
 use Rattle.judgement.specs.Judging.{run_standing}
 use Rattle.waiting_programs.specs.Programs.{Waiting, kept_at, kept_count, Becomes}
+use Rattle.pointer_symmetry.specs.Used.{AreUsed}
 use Rattle.synthesis.specs.declared.nodes.Held.{Held}
 use Rattle.synthesis.specs.declared.nodes.Held.TheVariants as holdings
 use Rattle.synthesis.specs.declared.splitting.Parent.{Parent}
+use Rattle.synthesis.specs.declared.splitting.Draft.{Draft}
 use Rattle.synthesis.specs.Search.{Node}
 
 -- the runs that wait at a line
 abbrev pub runs_waiting_at : {C : Type 0} → ℕ → List (Run C) → List (Run C)
 runs_waiting_at line runs = filter (λ run. run.here.line == line) runs
+
+-- this is a draft of the children of a node that is split: with an instruction on the line it has the child's program; and it has no
+-- runs, or one on each instance where the node's run waits at the line, in order, each one of whatever program
+pub record IsDraft {C : Type 0} (m : Semantics C) (belongs : ℕ → C → Type 0) (kept : List (Option (Waiting C))) (parent : Parent) (draft : Draft C) : Type 0 where
+  pub program : (instr : Instr) → with_line draft.program parent.line instr ≡ with_line parent.program parent.line instr
+  pub instances : (draft.runs.items ≡ []) ⊎ IfSome (kept_at kept parent.id) (λ waiting. instances_of draft.runs.items ≡ instances_of (runs_waiting_at parent.line waiting.runs))
+  pub runs : All (λ run. (q : Program) × IsRunOf m belongs q run) draft.runs.items
 
 module _ {C : Type 0} (m : Semantics C) (belongs : ℕ → C → Type 0) (limit : ℕ) where
   -- a program is kept with its runs: one on each instance, in order, each of which ended with the goal met, or waits
@@ -33,10 +42,11 @@ module _ {C : Type 0} (m : Semantics C) (belongs : ℕ → C → Type 0) (limit 
     pub only : (id : ℕ) → IsSome (kept_at kept id) → (number : ℕ) × (line : ℕ) × (slice_get holds number ≡ Some (holdings.Waiting line id))
     pub few : kept_count kept ≤ length holds
 
-  -- this is a partial program that is kept, an undefined line of it, where it is split, and where its runs stand
+  -- this is a partial program that is kept, an undefined line of it, where it is split, the pointers that it uses, and where its runs stand
   pub record IsParent (kept : List (Option (Waiting C))) (parent : Parent) : Type 0 where
     pub partial : IsPartial m.ops parent.program
     pub is_open : IsOpen parent.program parent.line
+    pub used : AreUsed m parent.program parent.used
     pub waiting : Waiting C
     pub here : kept_at kept parent.id ≡ Some waiting
     pub is_kept : IsKeptFor parent.program waiting
@@ -76,6 +86,7 @@ module _ {C : Type 0} where
   KeepsRootAs id holdings.Solved kept now = Becomes kept now id None
   KeepsRootAs id (holdings.Waiting line its_id) kept now = (its_id ≡ id) × (now ≡ kept)
   KeepsRootAs id (holdings.Split line stamp first) kept now = ⊥
+  KeepsRootAs id holdings.Twin kept now = ⊥
 
   -- the root is all that is held
   pub record KeepsRoot (id : ℕ) (after : List Held) (kept now : List (Option (Waiting C))) : Type 0 where

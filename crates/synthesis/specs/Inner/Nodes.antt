@@ -17,7 +17,7 @@ use Rattle.synthesis.specs.declared.newest.Ending.{Ending}
 use Rattle.synthesis.specs.declared.newest.Ending.TheVariants as endings
 use Rattle.synthesis.specs.declared.searcher.Searched.{Searched}
 use Rattle.synthesis.specs.Answers.{tree_of}
-use Rattle.synthesis.specs.Search.{SearchesSize, Setting, State, judged, split, Node, is_waiting, Close, found, run_spent, budget_spent, refuted, first_solved, first_limited, IsRoot, StaysOpen, Leads}
+use Rattle.synthesis.specs.Search.{SearchesSize, Setting, State, judged, split, twin, Node, is_waiting, Close, found, run_spent, budget_spent, refuted, first_solved, first_limited, IsRoot, StaysOpen, Leads}
 use Rattle.synthesis.specs.Inner.Keeping.{AreKept}
 use Rattle.synthesis.specs.Inner.Working.{Counts, HasWorked, HasWorkedFor}
 
@@ -28,6 +28,7 @@ state_of (holdings.AtLimit t) = judged (verdicts.AtLimit t)
 state_of holdings.Solved = judged verdicts.Solved
 state_of (holdings.Waiting line id) = judged (verdicts.Waiting line)
 state_of (holdings.Split line stamp first) = split line stamp
+state_of holdings.Twin = twin
 
 -- this is held of a node
 abbrev pub IsHeldOf : Node → Held → Type 0
@@ -40,6 +41,7 @@ IsDecided (holdings.AtLimit t) = Unit {0}
 IsDecided holdings.Solved = Unit {0}
 IsDecided (holdings.Waiting line id) = ⊥
 IsDecided (holdings.Split line stamp first) = ⊥
+IsDecided holdings.Twin = Unit {0}
 
 module _ (ops size : ℕ) where
   -- the numbers of a node's children, which stand in a row
@@ -49,6 +51,7 @@ module _ (ops size : ℕ) where
   children_of holdings.Solved = []
   children_of (holdings.Waiting line id) = []
   children_of (holdings.Split line stamp first) = range_with_len first (length (alphabet ops size line))
+  children_of holdings.Twin = []
 
   -- the nodes are those of some numbers, one after another, each followed by its children
   abbrev pub AreInPreorder : List Held → List ℕ → List Node → Type 0

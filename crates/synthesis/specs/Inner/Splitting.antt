@@ -9,7 +9,7 @@ use Rattle.synthesis.specs.declared.nodes.Held.TheVariants as holdings
 use Rattle.synthesis.specs.declared.nodes.Best.{Best}
 use Rattle.judgement.specs.declared.judging.Judgement.{Judgement}
 use Rattle.synthesis.specs.declared.newest.Newest.{Newest}
-use Rattle.synthesis.specs.Search.{Setting, Node, judged, waits_at, is_waiting, or_else, solved_program, limited_at, first_solved, first_limited, IsJudged, AreChildren}
+use Rattle.synthesis.specs.Search.{Setting, Node, judged, waits_at, is_waiting, or_else, solved_program, limited_at, first_solved, first_limited, IsJudged, IsChild, AreChildren}
 use Rattle.synthesis.specs.Inner.Judged.{verdict_of, key_in}
 use Rattle.synthesis.specs.Inner.Nodes.{state_of, IsHeldOf, pair_of, IsWaitingPair, program_in, AreEndsIn}
 
@@ -37,18 +37,22 @@ pub record AddsJudged (judgement : Judgement) (holds after : List Held) (pairs n
   pub pushed : after ≡ holds ++ held ∷ []
   pub pairs_now : MatchBool (is_some (waits_at (judged (verdict_of judgement)))) (IsPermutation ((key_in judgement, length holds) ∷ pairs) now) (now ≡ pairs)
 
--- the node of a program is judged and held with the next number, among those that wait if it does
-pub record AddsNode {C : Type 0} (s : Setting C) (program : Program) (holds after : List Held) (pairs now : List (List ℕ × ℕ)) : Type 0 where
-  pub node : Node
-  pub numbered : node.number ≡ length holds
-  pub program_is : node.program ≡ program
-  pub is_judged : IsJudged s node
+-- a node is held behind others, among those that wait if it does
+pub record PutsNode (node : Node) (holds after : List Held) (pairs now : List (List ℕ × ℕ)) : Type 0 where
   pub held : Held
   pub is_held : IsHeldOf node held
   pub pushed : after ≡ holds ++ held ∷ []
   pub told : (pair : List ℕ × ℕ) → Contains now pair → Contains pairs pair ⊎ ((is_waiting node ≡ true) × (pair ≡ pair_of node))
   pub kept : (pair : List ℕ × ℕ) → Contains pairs pair → Contains now pair
   pub waits : is_waiting node ≡ true → Contains now (pair_of node)
+
+-- the node of a program is judged and held with the next number
+pub record AddsNode {C : Type 0} (s : Setting C) (program : Program) (holds after : List Held) (pairs now : List (List ℕ × ℕ)) : Type 0 where
+  pub node : Node
+  pub numbered : node.number ≡ length holds
+  pub program_is : node.program ≡ program
+  pub is_judged : IsJudged s node
+  pub puts : PutsNode node holds after pairs now
 
 -- the newest tell of one node more, with the ends of its runs
 pub record SeesNode {C : Type 0} (m : Semantics C) (node : Node) (before after : Newest) : Type 0 where
@@ -60,6 +64,13 @@ pub record SeesNode {C : Type 0} (m : Semantics C) (node : Node) (before after :
 pub record AddsNewest {C : Type 0} (s : Setting C) (program : Program) (holds after : List Held) (pairs now : List (List ℕ × ℕ)) (before newest : Newest) : Type 0 where
   pub adds : AddsNode s program holds after pairs now
   pub sees : SeesNode s.machine adds.node before newest
+
+-- the child of a program for an instruction is passed over or judged, held with the next number, and seen among the newest
+pub record AddsChild {C : Type 0} (s : Setting C) (parent : Program) (line : ℕ) (instr : Instr) (holds after : List Held) (pairs now : List (List ℕ × ℕ)) (before newest : Newest) : Type 0 where
+  pub node : Node
+  pub is_child : IsChild s parent line (length holds) instr node
+  pub puts : PutsNode node holds after pairs now
+  pub sees : SeesNode s.machine node before newest
 
 -- the children for some instructions are added, with the numbers from one on, and seen among the newest
 pub record AddsChildren {C : Type 0} (s : Setting C) (parent : Program) (line : ℕ) (instrs : List Instr) (holds after : List Held) (pairs now : List (List ℕ × ℕ)) (newest : Newest) : Type 0 where

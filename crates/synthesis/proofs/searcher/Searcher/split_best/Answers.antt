@@ -5,7 +5,7 @@ use Rattle.synthesis.specs.Inner.Working.{counts}
 use Rattle.synthesis.proofs.WaitingPairs.{numbers_left}
 use Rattle.synthesis.proofs.SizesOfNodes.{none_waits, pairs_numbered, pairs_waiting}
 use Rattle.synthesis.proofs.Splits.{same_length}
-use Rattle.synthesis.proofs.KeptSplits.{best_kept, still_kept, parent_program, is_parent, split_grows}
+use Rattle.synthesis.proofs.KeptSplits.{best_kept, best_partial, still_kept, parent_program, is_parent, split_grows}
 use Rattle.synthesis.proofs.searcher.Searcher.split_best.Goals as goal
 
 pub take_best-best-requires-clause-some : goal.take_best-best-requires-clause-some
@@ -20,14 +20,17 @@ take_best-best-requires-clause-waiting g c =
     let can = c.requires.3 in
     pairs_waiting s c.args.self.now.bounds.now.budget c.requires.1 c.requires.0 can.all.are_held.some c.args.stamp c.args.nodes.now.held.items c.args.nodes.now.frontier.pairs can.nodes can.all.are_held
 
-pub parent-parent-requires : goal.parent-parent-requires
-parent-parent-requires g c = rw c.take_best-best.ensures.programs (best_kept c.requires.3 c.take_best-best.ensures.best)
+pub parent-parent-requires-clause-kept : goal.parent-parent-requires-clause-kept
+parent-parent-requires-clause-kept g c = rw c.take_best-best.ensures.programs (best_kept c.requires.3 c.take_best-best.ensures.best)
+
+pub parent-parent-requires-clause-partial : goal.parent-parent-requires-clause-partial
+parent-parent-requires-clause-partial g c = rw c.take_best-best.ensures.programs (best_partial c.requires.3 c.take_best-best.ensures.best)
 
 pub add_children-requires-clause-parent : goal.add_children-requires-clause-parent
 add_children-requires-clause-parent g c =
     let took = c.take_best-best.ensures in
     let parent = c.parent-parent.ensures in
-    rw took.programs (is_parent c.requires.3 took.best c.parent-parent.result (rw took.programs at parent.program) parent.id parent.line (rw took.programs at parent.standings))
+    rw took.programs (is_parent c.requires.3 took.best c.parent-parent.result (rw took.programs at parent.program) parent.id parent.line parent.used (rw took.programs at parent.standings))
 
 pub add_children-requires-clause-numbers : goal.add_children-requires-clause-numbers
 add_children-requires-clause-numbers g c =
