@@ -6,8 +6,8 @@ use Rattle.program_text.specs.Names.{AreNames}
 use Rattle.pointer_machine.specs.Machine.{MachineParts, meaning_of}
 use Rattle.pointer_machine.specs.Texts.{operation_texts}
 use Rattle.refutation_tree.specs.declared.evidence.Answer.{Answer}
-use Rattle.refutation_tree.specs.Covers.{nobody}
 use Rattle.refutation_tree.specs.Accepted.{IsAccepted}
+use Rattle.pointer_symmetry.specs.Twins.{twins}
 use Rattle.answer_reader.specs.Reading.{IsDocument}
 use Rattle.answer_reader.proofs.Said.{reads_one}
 use Rattle.bfgp_jobs.specs.declared.status.Status.TheVariants.{Done, No}
@@ -21,12 +21,12 @@ one_document texts bytes one other named says says_too =
 
 -- bytes that are the document of an answer are an accepted document exactly where this answer is accepted
 pub document_accepted : (machine : MachineParts) (lines : ℕ) (bytes : List ℕ) (answer : Answer) → AreNames (operation_texts machine.task machine.pointers) → IsDocument (operation_texts machine.task machine.pointers) bytes answer → IsAcceptedDocument machine lines bytes
-    → IsAccepted (meaning_of machine) nobody lines answer
+    → IsAccepted (meaning_of machine) (twins (meaning_of machine)) lines answer
 document_accepted machine lines bytes answer named says is =
-    subst (IsAccepted (meaning_of machine) nobody lines) (one_document (operation_texts machine.task machine.pointers) bytes is.answer answer named is.says says) is.accepted
+    subst (IsAccepted (meaning_of machine) (twins (meaning_of machine)) lines) (one_document (operation_texts machine.task machine.pointers) bytes is.answer answer named is.says says) is.accepted
 
 pub exactly_accepted : {E : Type 0} (machine : MachineParts) (lines : ℕ) (bytes : List ℕ) (names : List (List ℕ)) (answer : Answer) (result : Result Bool E) → AreNames (operation_texts machine.task machine.pointers) → names ≡ operation_texts machine.task machine.pointers → IsDocument names bytes answer
-    → IfOk result (λ told. IsTrue told ↔ IsAccepted (meaning_of machine) nobody lines answer) → IfOk result (λ told. IsTrue told ↔ IsAcceptedDocument machine lines bytes)
+    → IfOk result (λ told. IsTrue told ↔ IsAccepted (meaning_of machine) (twins (meaning_of machine)) lines answer) → IfOk result (λ told. IsTrue told ↔ IsAcceptedDocument machine lines bytes)
 exactly_accepted machine lines bytes names answer (Err e) named names_are says tells = tt
 exactly_accepted machine lines bytes names answer (Ok told) named names_are says tells =
     let says_it : IsDocument (operation_texts machine.task machine.pointers) bytes answer = subst (λ (texts : List (List ℕ)). IsDocument texts bytes answer) names_are says in

@@ -45,9 +45,9 @@ problem_text family size = printed_problem (problem_of family size)
 
 -- ---- how many there are
 -- how many operations there are over the pointers of a family
-operations_few : (family : Family) → operation_count (family_task family) (pointers_of family) ≤ MAX_OPS
-operations_few Lights = let count : operation_count (family_task Lights) (pointers_of Lights) ≡ 5 = refl in omega (arith, count)
-operations_few Corridor = let count : operation_count (family_task Corridor) (pointers_of Corridor) ≡ 20 = refl in omega (arith, count)
+pub family_operations_few : (family : Family) → operation_count (family_task family) (pointers_of family) ≤ MAX_OPS
+family_operations_few Lights = let count : operation_count (family_task Lights) (pointers_of Lights) ≡ 5 = refl in omega (arith, count)
+family_operations_few Corridor = let count : operation_count (family_task Corridor) (pointers_of Corridor) ≡ 20 = refl in omega (arith, count)
 
 pub family_pointers_few : (family : Family) → (0 < pointers_of family) × (pointers_of family ≤ MAX_POINTERS)
 family_pointers_few Lights = (omega arith, omega arith)
@@ -116,12 +116,12 @@ module _ (family : Family) where
   -- the machine that is made is the one over the family's instances
   pub family_machine_is : (number : ℕ) (machine : MachineParts) → FamilyDue number (Ok machine) → machine ≡ posed_parts (family_task family) (family_instances family number) (pointers_of family)
   family_machine_is number machine made =
-      let found = machine_found (family_name family) (domain_text family) (family_task family) (faultless_domain family) (map (problem_text family) (sizes_of family number)) (family_instances family number) (pointers_of family) (faultless_problems (sizes_of family number) (are_sizes number)) (operations_few family) (Ok machine) made in cc
+      let found = machine_found (family_name family) (domain_text family) (family_task family) (faultless_domain family) (map (problem_text family) (sizes_of family number)) (family_instances family number) (pointers_of family) (faultless_problems (sizes_of family number) (are_sizes number)) (family_operations_few family) (Ok machine) made in cc
 
   -- and there is no fault to tell
   pub family_faultless : (number : ℕ) (line : List ℕ) → FamilyDue number (Err line) → ⊥
   family_faultless number line told =
-      no_fault_told (family_name family) (domain_text family) (family_task family) (faultless_domain family) (map (problem_text family) (sizes_of family number)) (family_instances family number) (pointers_of family) (faultless_problems (sizes_of family number) (are_sizes number)) (operations_few family) line told
+      no_fault_told (family_name family) (domain_text family) (family_task family) (faultless_domain family) (map (problem_text family) (sizes_of family number)) (family_instances family number) (pointers_of family) (faultless_problems (sizes_of family number) (are_sizes number)) (family_operations_few family) line told
 
   -- the domain that was read, by which the family's task and its instances are valid
   module _ (domain : DomainText) (has : HasDomain (domain_text family) domain) where
@@ -151,7 +151,7 @@ module _ (family : Family) where
       let few = family_pointers_few family in
       record {
         fit = instances_fit text has parts (sizes_of family number) tables (are_sizes number) tables_are;
-        named = operations-named (family_task family) (pointers_of family) (is_task text has) few.0 few.1 (operations_few family);
+        named = operations-named (family_task family) (pointers_of family) (is_task text has) few.0 few.1 (family_operations_few family);
       }
 
 -- ---- the texts that were made, by slices of them

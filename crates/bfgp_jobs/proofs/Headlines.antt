@@ -1,6 +1,9 @@
 -- From the reply that is due to the headline.
-use Rattle.std.proofs.Common.{◌≡◌, ℕ, List, [], length, slice_get, Option, Some, Ok, Bool, true, false, refl, sym, ◌∙◌, ap, subst, arith}
+use Rattle.std.proofs.Common.{◌≡◌, ℕ, ◌<◌, ◌≤◌, List, [], length, map, slice_get, Option, Some, Ok, Bool, true, false, refl, sym, ◌∙◌, ap, subst, arith}
+use Rattle.std.specs.Prelude.{slice_index_or}
 use Rattle.std.proofs.lemmas.List.{length-map}
+use Rattle.std.proofs.lemmas.List.Elements.{All-map}
+use Rattle.std.proofs.lemmas.Option.{slice_get-get_or}
 use Rattle.std.proofs.lemmas.Slice.Zip.{AllZip-long}
 use Rattle.bfgp_outside.specs.Shelf.{Files}
 use Rattle.bfgp_outside.specs.Sink.{Appends}
@@ -9,16 +12,20 @@ use Rattle.ground_state.specs.declared.parts.TaskParts.{TaskParts}
 use Rattle.ground_state.specs.declared.parts.InstanceParts.{InstanceParts}
 use Rattle.ground_state.specs.Instance.{IsInstance}
 use Rattle.ground_state.specs.Ground.{ground_of}
+use Rattle.ground_state.specs.Action.{IsTableOf}
+use Rattle.program_model.specs.declared.alphabet.TheConstants.{MAX_OPS}
 use Rattle.program_model.specs.declared.machine.TheConstants.{MAX_INSTANCES, MAX_POINTERS}
 use Rattle.program_model.specs.Program.{Program, IsProgram}
 use Rattle.program_model.specs.Semantics.{Semantics}
 use Rattle.program_text.specs.Names.{AreNames}
 use Rattle.program_text.specs.Reading.{Reads}
 use Rattle.pointer_machine.specs.declared.pointing.Pointing.{Pointing}
-use Rattle.pointer_machine.specs.Machine.{MachineParts, meaning_of}
-use Rattle.pointer_machine.specs.Operations.{operations_of}
+use Rattle.pointer_machine.specs.Machine.{MachineParts, AreMachineParts, meaning_of}
+use Rattle.pointer_machine.specs.Meaning.{IsValueOf, table_at}
+use Rattle.pointer_machine.specs.Operations.{operations_of, operation_count}
 use Rattle.pointer_machine.specs.Texts.{form_text, operation_texts}
 use Rattle.pointer_machine.proofs.Counts.{length-operations}
+use Rattle.pointer_machine.proofs.Symmetry.{symmetric_meaning}
 use Rattle.instance_report.specs.declared.answer.Report.{Report}
 use Rattle.instance_report.specs.Report.{IsReport}
 use Rattle.instance_report.proofs.Solving.{solved_exactly, unsolved_somewhere}
@@ -26,10 +33,11 @@ use Rattle.refutation_tree.specs.declared.evidence.Answer.{Answer}
 use Rattle.refutation_tree.specs.declared.evidence.Outcome.{Outcome}
 use Rattle.refutation_tree.specs.declared.evidence.Outcome.TheVariants as outcomes
 use Rattle.refutation_tree.specs.Accepted.{IsAccepted, IsSpentAt}
-use Rattle.refutation_tree.specs.Covers.{nobody}
+use Rattle.refutation_tree.specs.Covers.{IsFair}
 use Rattle.refutation_tree.specs.Grammar.{IsFromOneTo, IsGrammatical, FitsOutcome}
-use Rattle.refutation_tree.proofs.Covering.{nobody_is_fair}
 use Rattle.refutation_tree.proofs.Holding.{accepted_least, accepted_none, accepted_spent}
+use Rattle.pointer_symmetry.specs.Twins.{twins}
+use Rattle.pointer_symmetry.proofs.FairTwins.{twins_fair}
 use Rattle.answer_writer.specs.Document.{document}
 use Rattle.search_bounds.specs.declared.bounds.Bounds.{Bounds}
 use Rattle.search_bounds.specs.Limits.{AreWithinLimits}
@@ -63,7 +71,7 @@ use Rattle.bfgp_jobs.specs.Headline.{Headline, Succeeds, Refutes, posed_parts, p
 use Rattle.bfgp_jobs.specs.Inner.Replying.{Writes}
 use Rattle.bfgp_jobs.proofs.Checks.{one_document}
 use Rattle.bfgp_jobs.proofs.Runs.{program_over}
-use Rattle.bfgp_jobs.proofs.FamilyMachines.{family_machine_is, family_holds, family_pointers_few, family_instances_few}
+use Rattle.bfgp_jobs.proofs.FamilyMachines.{family_machine_is, family_holds, family_operations_few, family_pointers_few, family_instances_few}
 use Rattle.bfgp_jobs.proofs.Searches.{family_bounds_within}
 use Rattle.bfgp_jobs.proofs.Summaries.{ends_with_program}
 use Rattle.bfgp_jobs.proofs.GoalRuns.{solves_each, each_within, fails_one, solves_all, ends_each}
@@ -73,36 +81,67 @@ use Rattle.bfgp_jobs.proofs.GoalRuns.{solves_each, each_within, fails_one, solve
 abbrev pub AreFit : TaskParts → List InstanceParts → Type 0
 AreFit task instances = (t : ℕ) (instance : InstanceParts) → slice_get instances t ≡ Some instance → IsInstance task instance
 
-module _ (task : TaskParts) (instances : List InstanceParts) (pointers lines : ℕ) (fit : AreFit task instances) (found : Answer) (is_accepted : IsAccepted (posed_machine task instances pointers) nobody lines found) where
+-- they are valid, and the machine over them is within its limits
+pub record ArePosed (task : TaskParts) (instances : List InstanceParts) (pointers : ℕ) : Type 0 where
+  pub fit : AreFit task instances
+  pub few_pointers : IsFromOneTo MAX_POINTERS pointers
+  pub few_instances : IsFromOneTo MAX_INSTANCES (length instances)
+  pub few_operations : operation_count task pointers ≤ MAX_OPS
+
+-- so they are the parts of a machine
+posed_are_parts : (task : TaskParts) (instances : List InstanceParts) (pointers : ℕ) → ArePosed task instances pointers → AreMachineParts (posed_parts task instances pointers)
+posed_are_parts task instances pointers are =
+    let tables = length-map instances (ground_of task) in
+    record {
+      tables = All-map (IsTableOf task) (ground_of task) instances (λ t otherwise within. record {
+        instance = slice_index_or instances t otherwise;
+        fits = are.fit t (slice_index_or instances t otherwise) (slice_get-get_or instances t otherwise within);
+        made = refl;
+      });
+      some_tables = omega (arith, tables, are.few_instances.0);
+      few_tables = omega (arith, tables, are.few_instances.1);
+      some_pointers = are.few_pointers.0;
+      few_pointers = are.few_pointers.1;
+      few_operations = are.few_operations;
+    }
+
+-- and passing twins over loses no solution
+twins_are_fair : (task : TaskParts) (instances : List InstanceParts) (pointers : ℕ) → ArePosed task instances pointers → IsFair (posed_machine task instances pointers) (twins (posed_machine task instances pointers))
+twins_are_fair task instances pointers are =
+    let tables = map (ground_of task) instances in
+    twins_fair (posed_machine task instances pointers) (λ t value. (t < length tables) × IsValueOf (table_at tables t) pointers value)
+    (symmetric_meaning task tables pointers (posed_are_parts task instances pointers are)) are.few_pointers.1
+
+module _ (task : TaskParts) (instances : List InstanceParts) (pointers lines : ℕ) (are : ArePosed task instances pointers) (found : Answer) (is_accepted : IsAccepted (posed_machine task instances pointers) (twins (posed_machine task instances pointers)) lines found) where
   -- its program is a least one
   gives_least : (size : ℕ) → found.outcome ≡ outcomes.Program size → GivesLeast task instances pointers lines found
   gives_least size is =
       let machine = posed_machine task instances pointers in
-      let shown = accepted_least machine nobody (nobody_is_fair machine) lines size found is_accepted is in
+      let shown = accepted_least machine (twins machine) (twins_are_fair task instances pointers are) lines size found is_accepted is in
       record {
         program = shown.program;
         is_least = record {
           is_program = shown.least.is_program;
           at_most = omega (arith, shown.size_is, shown.within);
-          solves = solves_each task instances pointers fit shown.program shown.least.solves;
-          least = λ other is_one fewer solved. shown.least.least other is_one fewer (solves_all task instances pointers fit other solved);
+          solves = solves_each task instances pointers are.fit shown.program shown.least.solves;
+          least = λ other is_one fewer solved. shown.least.least other is_one fewer (solves_all task instances pointers are.fit other solved);
         };
         found = is ∙ ap outcomes.Program (sym shown.size_is);
         given = shown.given;
-        ends = ends_each task instances pointers fit shown.program found.ends shown.ends;
+        ends = ends_each task instances pointers are.fit shown.program found.ends shown.ends;
       }
 
   -- there is none where it says so
   none_solves_each : found.outcome ≡ outcomes.Nothing → NoneSolvesEach task instances pointers lines
   none_solves_each is program is_one few solved =
       let machine = posed_machine task instances pointers in
-      accepted_none machine nobody (nobody_is_fair machine) lines found is_accepted is program is_one few (solves_all task instances pointers fit program solved)
+      accepted_none machine (twins machine) (twins_are_fair task instances pointers are) lines found is_accepted is program is_one few (solves_all task instances pointers are.fit program solved)
 
   -- there is none of fewer lines than the size at which a budget was spent
   none_shorter : (size : ℕ) → IsSpentAt size found.outcome → NoneShorter task instances pointers size
   none_shorter size is program is_one fewer solved =
       let machine = posed_machine task instances pointers in
-      accepted_spent machine nobody (nobody_is_fair machine) lines size found is_accepted is program is_one fewer (solves_all task instances pointers fit program solved)
+      accepted_spent machine (twins machine) (twins_are_fair task instances pointers are) lines size found is_accepted is program is_one fewer (solves_all task instances pointers are.fit program solved)
 
   -- so what it says is so
   shows : (outcome : Outcome) → found.outcome ≡ outcome → Shows task instances pointers lines found outcome
@@ -114,9 +153,7 @@ module _ (task : TaskParts) (instances : List InstanceParts) (pointers lines : �
 -- ---- what the answer of a search shows
 -- the answer of a search over instances of a task that are valid, where its numbers are within their limits
 pub record IsSearched (task : TaskParts) (instances : List InstanceParts) (pointers : ℕ) (bounds : Bounds) (found : Answer) : Type 0 where
-  fit : AreFit task instances
-  few_pointers : IsFromOneTo MAX_POINTERS pointers
-  few_instances : IsFromOneTo MAX_INSTANCES (length instances)
+  are : ArePosed task instances pointers
   within : AreWithinLimits bounds
   is_answer : IsBestFirstAnswer (posed_machine task instances pointers) bounds found
 
@@ -156,15 +193,15 @@ module _ (task : TaskParts) (instances : List InstanceParts) (pointers : ℕ) (b
   ops = length-map (operations_of task pointers) (form_text task)
 
   -- the answer is accepted
-  searched_is_accepted : IsAccepted machine nobody bounds.lines found
+  searched_is_accepted : IsAccepted machine (twins machine) bounds.lines found
   searched_is_accepted =
       let count = length-operations task pointers in
       let tables = length-map instances (ground_of task) in
       let within = known.within in
       searched_accepted (best_first machine bounds) bounds.budget (omega (arith, within.few_splits)) (omega (arith, within.few_steps)) bounds.lines found
-      (omega (arith, count, known.few_pointers.0))
-      known.few_pointers
-      (omega (arith, tables, known.few_instances.0), omega (arith, tables, known.few_instances.1))
+      (omega (arith, count, known.are.few_pointers.0))
+      known.are.few_pointers
+      (omega (arith, tables, known.are.few_instances.0), omega (arith, tables, known.are.few_instances.1))
       (within.some_lines, within.few_lines)
       known.is_answer
 
@@ -179,7 +216,7 @@ module _ (task : TaskParts) (instances : List InstanceParts) (pointers : ℕ) (b
         let outcome = done_is found.outcome done in
         record {
           answer = found;
-          gives = gives_least task instances pointers bounds.lines known.fit found searched_is_accepted outcome.0 outcome.1;
+          gives = gives_least task instances pointers bounds.lines known.are found searched_is_accepted outcome.0 outcome.1;
           searched = known.is_answer;
           written = written;
         }
@@ -189,7 +226,7 @@ module _ (task : TaskParts) (instances : List InstanceParts) (pointers : ℕ) (b
     refutes refuted =
         let outcome = no_is found.outcome refuted in
         record {
-          none = none_solves_each task instances pointers bounds.lines known.fit found searched_is_accepted outcome;
+          none = none_solves_each task instances pointers bounds.lines known.are found searched_is_accepted outcome;
           answer = found;
           nothing = outcome;
           no_program = (subst (FitsOutcome machine.ops found) outcome searched_is_accepted.grammatical.outcome).0;
@@ -206,7 +243,7 @@ module _ (task : TaskParts) (instances : List InstanceParts) (pointers : ℕ) (b
           size = outcome.0;
           says = outcome.1;
           spends = spent_budget_shown (best_first machine bounds) bounds.budget bounds.lines outcome.0 found known.is_answer outcome.1;
-          none = none_shorter task instances pointers bounds.lines known.fit found searched_is_accepted outcome.0 (subst (IsSpentAt outcome.0) (sym outcome.1) refl);
+          none = none_shorter task instances pointers bounds.lines known.are found searched_is_accepted outcome.0 (subst (IsSpentAt outcome.0) (sym outcome.1) refl);
           no_program = (subst (FitsOutcome machine.ops found) outcome.1 searched_is_accepted.grammatical.outcome).0;
           searched = known.is_answer;
           written = written;
@@ -222,7 +259,7 @@ module _ (task : TaskParts) (instances : List InstanceParts) (pointers : ℕ) (b
           t = outcome.1;
           says = outcome.2;
           spends = spent_run_shown (best_first machine bounds) bounds.budget bounds.lines outcome.0 outcome.1 found known.is_answer outcome.2;
-          none = none_shorter task instances pointers bounds.lines known.fit found searched_is_accepted outcome.0 (subst (IsSpentAt outcome.0) (sym outcome.2) refl);
+          none = none_shorter task instances pointers bounds.lines known.are found searched_is_accepted outcome.0 (subst (IsSpentAt outcome.0) (sym outcome.2) refl);
           no_program = (subst (FitsOutcome machine.ops found) outcome.2 searched_is_accepted.grammatical.outcome).1.0;
           searched = known.is_answer;
           written = written;
@@ -271,9 +308,12 @@ answered files job reply is_job (goes_on {a = machine} made found) =
       machine_is = held.is;
       found = found.0;
       searched = record {
-        fit = held.fit;
-        few_pointers = (is_job.some_pointers, is_job.few_pointers);
-        few_instances = (omega (arith, given, inputs.some_instances), omega (arith, given, inputs.few_instances));
+        are = record {
+          fit = held.fit;
+          few_pointers = (is_job.some_pointers, is_job.few_pointers);
+          few_instances = (omega (arith, given, inputs.some_instances), omega (arith, given, inputs.few_instances));
+          few_operations = held.few;
+        };
         within = is_job.bounds;
         is_answer = subst (λ (m : MachineParts). IsBestFirstAnswer (meaning_of m) job.bounds found.0) held.is found.1;
       };
@@ -286,7 +326,7 @@ module _ (files : Files) (job : SynthJob) (reply : Reply) (known : Answered file
   posed_texts = operation_texts known.posed.task job.pointers
 
   -- the answer is accepted
-  pub answer_accepted : IsAccepted (posed_machine known.posed.task known.posed.instances job.pointers) nobody job.bounds.lines known.found
+  pub answer_accepted : IsAccepted (posed_machine known.posed.task known.posed.instances job.pointers) (twins (posed_machine known.posed.task known.posed.instances job.pointers)) job.bounds.lines known.found
   answer_accepted = searched_is_accepted known.posed.task known.posed.instances job.pointers job.bounds known.found known.searched
 
   -- the document says it
@@ -324,9 +364,12 @@ family_answered job reply (goes_on {a = machine} made found) =
       found = found.0;
       named = holds.named;
       searched = record {
-        fit = holds.fit;
-        few_pointers = family_pointers_few family;
-        few_instances = family_instances_few family job.number;
+        are = record {
+          fit = holds.fit;
+          few_pointers = family_pointers_few family;
+          few_instances = family_instances_few family job.number;
+          few_operations = family_operations_few family;
+        };
         within = family_bounds_within family;
         is_answer = subst (λ (m : MachineParts). IsBestFirstAnswer (meaning_of m) (bounds_of family) found.0) is found.1;
       };
@@ -350,21 +393,28 @@ gen_shows job reply status old new due ended appended =
 -- what is posed, and the verdict on the document that its file holds
 record Checked (files : Files) (job : CheckJob) (reply : Reply) : Type 0 where
   poses : PosesCheck job files
-  fit : AreFit poses.posed.task poses.posed.instances
+  are : ArePosed poses.posed.task poses.posed.instances job.pointers
   named : AreNames (operation_texts poses.posed.task job.pointers)
   verdict : VerdictDue (posed_parts poses.posed.task poses.posed.instances job.pointers) job.lines poses.bytes (Ok reply)
 
 checked : (files : Files) (job : CheckJob) (reply : Reply) → IsCheckJob job → check_due files job (Ok reply) → Checked files job reply
 checked files job reply is_job (goes_on {a = machine} made (goes_on {a = bytes} read verdict)) =
     let held = machine_held files job.inputs job.pointers machine made in
+    let given = AllZip-long (HoldsInstance files held.posed.domain) job.inputs.instances held.posed.instances held.posed.instances_are in
+    let inputs = is_job.inputs in
     record {
       poses = record { posed = held.posed; bytes = bytes; held = whole_held (files job.answer) MAX_DOCUMENT_BYTES bytes read };
-      fit = held.fit;
+      are = record {
+        fit = held.fit;
+        few_pointers = (is_job.some_pointers, is_job.few_pointers);
+        few_instances = (omega (arith, given, inputs.some_instances), omega (arith, given, inputs.few_instances));
+        few_operations = held.few;
+      };
       named = operations-named held.posed.task job.pointers held.is_task is_job.some_pointers is_job.few_pointers held.few;
       verdict = subst (λ (m : MachineParts). VerdictDue m job.lines bytes (Ok reply)) held.is verdict;
     }
 
-module _ (files : Files) (job : CheckJob) (poses : PosesCheck job files) (fit : AreFit poses.posed.task poses.posed.instances) (named : AreNames (operation_texts poses.posed.task job.pointers)) where
+module _ (files : Files) (job : CheckJob) (poses : PosesCheck job files) (are : ArePosed poses.posed.task poses.posed.instances job.pointers) (named : AreNames (operation_texts poses.posed.task job.pointers)) where
   abbrev parts : MachineParts
   parts = posed_parts poses.posed.task poses.posed.instances job.pointers
 
@@ -374,7 +424,7 @@ module _ (files : Files) (job : CheckJob) (poses : PosesCheck job files) (fit : 
     poses = poses;
     is_accepted = is;
     only = λ other says_too. one_document (operation_texts poses.posed.task job.pointers) poses.bytes other is.answer named says_too is.says;
-    shows = shows poses.posed.task poses.posed.instances job.pointers job.lines fit is.answer is.accepted is.answer.outcome refl;
+    shows = shows poses.posed.task poses.posed.instances job.pointers job.lines are is.answer is.accepted is.answer.outcome refl;
   }
   document_shows _ (rejected none) done = absurd (cc)
 
@@ -472,14 +522,14 @@ run_status files job reply here = let known = reported files job reply here in s
 -- with status 0
 succeeds : (files : Files) (job : Job) (reply : Reply) (old new : Option (List ℕ)) → IsJob job → job_due files job (Ok reply) → reply.status ≡ Done → Appends old new reply.text → Succeeds job files old new
 succeeds files (Synth job) reply old new is_job here done appended = synth_shows files job reply (answered files job reply is_job here) Done old new done appended
-succeeds files (Check job) reply old new is_job here done appended = let known = checked files job reply is_job here in document_shows files job known.poses known.fit known.named reply known.verdict done
+succeeds files (Check job) reply old new is_job here done appended = let known = checked files job reply is_job here in document_shows files job known.poses known.are known.named reply known.verdict done
 succeeds files (Run job) reply old new is_job here done appended = program_solves files job reply (reported files job reply here) done
 succeeds files (Gen job) reply old new is_job here done appended = gen_shows job reply Done old new here done appended
 
 -- with status 1
 refuted : (files : Files) (job : Job) (reply : Reply) (old new : Option (List ℕ)) → IsJob job → job_due files job (Ok reply) → reply.status ≡ No → Appends old new reply.text → Refutes job files old new
 refuted files (Synth job) reply old new is_job here status appended = synth_shows files job reply (answered files job reply is_job here) No old new status appended
-refuted files (Check job) reply old new is_job here status appended = let known = checked files job reply is_job here in document_fails files job known.poses known.fit known.named reply known.verdict status
+refuted files (Check job) reply old new is_job here status appended = let known = checked files job reply is_job here in document_fails files job known.poses known.are known.named reply known.verdict status
 refuted files (Run job) reply old new is_job here status appended = program_fails files job reply (reported files job reply here) status
 refuted files (Gen job) reply old new is_job here status appended = gen_shows job reply No old new here status appended
 

@@ -11,8 +11,8 @@ use Rattle.instance_report.specs.Report.{IsReport}
 use Rattle.refutation_tree.specs.declared.evidence.Answer.{Answer}
 use Rattle.refutation_tree.specs.declared.evidence.Outcome.{Outcome}
 use Rattle.refutation_tree.specs.declared.evidence.Outcome.TheVariants as outcomes
-use Rattle.refutation_tree.specs.Covers.{nobody}
 use Rattle.refutation_tree.specs.Accepted.{IsAccepted}
+use Rattle.pointer_symmetry.specs.Twins.{twins}
 use Rattle.answer_writer.specs.Document.{document}
 use Rattle.answer_reader.specs.Reading.{IsDocument}
 use Rattle.search_bounds.specs.declared.bounds.Bounds.{Bounds}
@@ -51,11 +51,11 @@ synth_due files job = do
   machine ← machine_due files job.inputs job.pointers
   answer_due machine job.bounds
 
--- the bytes are the document of an answer that is accepted for a machine and a number of lines
+-- the bytes are the document of an answer that is accepted for a machine and a number of lines; twins may be passed over
 pub record IsAcceptedDocument (machine : MachineParts) (lines : ℕ) (bytes : List ℕ) : Type 0 where
   pub answer : Answer
   pub says : IsDocument (operation_texts machine.task machine.pointers) bytes answer
-  pub accepted : IsAccepted (meaning_of machine) nobody lines answer
+  pub accepted : IsAccepted (meaning_of machine) (twins (meaning_of machine)) lines answer
 
 abbrev pub accepted_reply : Reply
 accepted_reply = record { status = Done; text = line (codes "accepted") }

@@ -10,9 +10,9 @@ use Rattle.refutation_tree.specs.declared.evidence.Tree.{Tree}
 use Rattle.refutation_tree.specs.declared.evidence.Outcome.{Outcome}
 use Rattle.refutation_tree.specs.declared.evidence.Outcome.TheVariants as outcomes
 use Rattle.refutation_tree.specs.declared.evidence.Answer.{Answer}
-use Rattle.refutation_tree.specs.Covers.{nobody}
 use Rattle.refutation_tree.specs.Grammar.{FitsOutcome, HasProgram, IsTree, last_size}
 use Rattle.refutation_tree.specs.Accepted.{AreEndsFrom, IsAccepted}
+use Rattle.pointer_symmetry.specs.Twins.{twins}
 use Rattle.refutation_check.specs.Inner.Judging.{IsHeaded, HasTrees}
 
 -- ---- ends
@@ -71,7 +71,7 @@ pub record IsJudged {C : Type 0} (m : Semantics C) (lines : ℕ) (a : Answer) : 
   pub trees : HasTrees m a
   pub ends : IfSome a.program (λ program. AreEndsFrom m program 0 a.ends)
 
-pub accepted : {C : Type 0} (m : Semantics C) (lines : ℕ) (a : Answer) → IsJudged m lines a → IsAccepted m nobody lines a
+pub accepted : {C : Type 0} (m : Semantics C) (lines : ℕ) (a : Answer) → IsJudged m lines a → IsAccepted m (twins m) lines a
 accepted m lines a h = record {
   grammatical = record {
     pointers = h.headed.pointers_in_range;
@@ -89,7 +89,7 @@ accepted m lines a h = record {
   ends = h.ends;
 }
 
-pub judged : {C : Type 0} (m : Semantics C) (lines : ℕ) (a : Answer) → IsAccepted m nobody lines a → IsJudged m lines a
+pub judged : {C : Type 0} (m : Semantics C) (lines : ℕ) (a : Answer) → IsAccepted m (twins m) lines a → IsJudged m lines a
 judged m lines a h = record {
   headed = record { pointers = h.pointers; asked = h.asked; instances = h.instances; pointers_in_range = h.grammatical.pointers; lines_in_range = h.grammatical.lines; instances_in_range = h.grammatical.instances; size = h.grammatical.size };
   fits = h.grammatical.outcome;

@@ -2,8 +2,8 @@ ghost use Rattle.std.specs.Prelude.{◌≡◌, ◌<◌, ◌≤◌, ◌↔◌, Is
 ghost use Rattle.program_model.specs.Semantics.{Semantics};
 ghost use Rattle.program_model.specs.Program.{IsPartial};
 ghost use Rattle.program_model.specs.Run.{Ends};
-ghost use Rattle.refutation_tree.specs.Covers.{nobody};
 ghost use Rattle.refutation_tree.specs.Accepted.{AreEndsFrom, IsAccepted};
+ghost use Rattle.pointer_symmetry.specs.Twins.{twins};
 
 use crate::grammar::{fits_outcome, is_headed};
 use crate::run::Run;
@@ -53,9 +53,10 @@ fn all_end<M: Machine>(
 }
 
 /// Whether an answer is accepted for a machine and a number of lines: it is of the grammar over the machine's operations, its
-/// numbers are the machine's and these lines, each tree of a size that it says is refuted covers, and the ends of its
-/// program's runs are true. All runs are made here. What an accepted answer shows is the law
-/// [`refutation_tree::accepted_answers_hold`]: its program is least, or there is none of so many lines.
+/// numbers are the machine's and these lines, each tree of a size that it says is refuted covers, where twins of siblings may be
+/// passed over, and the ends of its program's runs are true. All runs are made here, and what is a twin is found here. What an
+/// accepted answer shows is the law [`refutation_tree::accepted_answers_hold`]: its program is least, or there is none of so
+/// many lines. The law needs that passing over loses no solution: [`pointer_symmetry::passing_twins_over_is_fair`].
 pub fn accepts<M: Machine>(
     alloc: Global,
     machine: &M,
@@ -63,7 +64,8 @@ pub fn accepts<M: Machine>(
     answer: &Answer,
     meter: &mut M::Meter,
 ) -> Result<bool, OutOfMemory>
-    ensures { IfOk result (λ accepted. IsTrue accepted ↔ IsAccepted (M.semantics machine.now) nobody lines answer.now) }
+    ensures { let m = M.semantics machine.now in
+        IfOk result (λ accepted. IsTrue accepted ↔ IsAccepted m (twins m) lines answer.now) }
 {
     if !is_headed(machine, lines, answer)
         || !fits_outcome(machine.ops(), answer)

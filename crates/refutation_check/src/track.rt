@@ -2,7 +2,7 @@ ghost use Rattle.std.specs.Prelude.{◌≡◌, ◌<◌, ◌≤◌, ◌↔◌, Is
 ghost use Rattle.program_model.specs.Semantics.{Semantics};
 ghost use Rattle.program_model.specs.Program.{Program, Extends, IsPartial};
 ghost use Rattle.refutation_check.specs.Inner.Runs.{IsTrack, StandsAt};
-ghost use Rattle.refutation_check.specs.Inner.Walking.{NamesRun, Shows};
+ghost use Rattle.refutation_check.specs.Inner.Walking.{NamesRun, Refutes};
 
 use crate::configuration::Configuration;
 use crate::run::Run;
@@ -92,7 +92,7 @@ impl<C: Drop> Track<C> {
         requires names { NamesRun (M.semantics machine.now).instances self.old.t mark }
         ensures track { IsTrack (M.semantics machine.now) (M.belongs machine.now) parent.now self.new }
         ensures instance { self.new.t ≡ self.old.t }
-        ensures refutes { IsTrue result ↔ Shows (M.semantics machine.now) program.now mark }
+        ensures refutes { IsTrue result ↔ Refutes (M.semantics machine.now) program.now mark }
     {
         match mark {
             Mark::Unmet { steps, .. } => {

@@ -1,7 +1,7 @@
-ghost use Rattle.std.specs.Prelude.{◌≡◌, ◌<◌, ◌≤◌, ◌↔◌, [], ◌∷◌, IsTrue, IfOk, IfSome, IfNone, drop};
+ghost use Rattle.std.specs.Prelude.{◌≡◌, ◌<◌, ◌≤◌, ◌↔◌, [], IsTrue, IfOk, IfSome, IfNone, Some, drop};
 ghost use Rattle.program_model.specs.Semantics.{Semantics};
 ghost use Rattle.program_model.specs.Program.{IsPartial, empty};
-ghost use Rattle.refutation_check.specs.Inner.Walking.{IsNext, IsSameWalk, IsWalk, NamesRun, Shows, Stands, Takes, pending};
+ghost use Rattle.refutation_check.specs.Inner.Walking.{IsNext, IsSameWalk, IsWalk, NamesRun, Refutes, Stands, Takes, as_next, pending, rooted, skips_first};
 
 use crate::family::Family;
 use crate::mark::{is_in_range, splits_open};
@@ -33,7 +33,7 @@ impl<C: Drop> Walk<C> {
         requires short { size ≤ MAX_LINES }
         ensures walk { IsWalk (M.semantics machine.now) (M.belongs machine.now) result }
         ensures covering { result.covering ≡ covering }
-        ensures pending { pending (M.semantics machine.now).ops result ≡ empty size ∷ [] }
+        ensures pending { pending (M.semantics machine.now) result ≡ rooted (Some (empty size)) }
     {
         Walk {
             covering,
@@ -46,8 +46,8 @@ impl<C: Drop> Walk<C> {
     fn next<M: Machine<Cfg = C>>(&self, machine: &M) -> Option<Partial>
         requires { IsWalk (M.semantics machine.now) (M.belongs machine.now) self.now }
         ensures some { IfSome result (λ program. IsPartial (M.semantics machine.now).ops program
-            × IsNext (M.semantics machine.now).ops self.now program) }
-        ensures none { IfNone result (pending (M.semantics machine.now).ops self.now ≡ []) }
+            × IsNext (M.semantics machine.now) self.now program) }
+        ensures none { IfNone result (pending (M.semantics machine.now) self.now ≡ []) }
     {
         match self.families.last() {
             Some(family) => Some(family.child(machine)),
@@ -61,7 +61,7 @@ impl<C: Drop> Walk<C> {
     /// Whether each partial program has its mark.
     pub(crate) fn is_done<M: Machine<Cfg = C>>(&self, machine: &M) -> bool
         requires { IsWalk (M.semantics machine.now) (M.belongs machine.now) self.now }
-        ensures { IsTrue result ↔ (pending (M.semantics machine.now).ops self.now ≡ []) }
+        ensures { IsTrue result ↔ (pending (M.semantics machine.now) self.now ≡ []) }
     {
         self.next(machine).is_none()
     }
@@ -71,8 +71,7 @@ impl<C: Drop> Walk<C> {
         requires { IsWalk (M.semantics machine.now) (M.belongs machine.now) self.old }
         ensures walk { IsWalk (M.semantics machine.now) (M.belongs machine.now) self.new }
         ensures covering { self.new.covering ≡ self.old.covering }
-        ensures pending { let ops = (M.semantics machine.now).ops in
-            pending ops self.new ≡ drop 1 (pending ops self.old) }
+        ensures pending { let m = M.semantics machine.now in pending m self.new ≡ drop 1 (pending m self.old) }
     {
         if self.families.is_empty() {
             self.root = None;
@@ -97,11 +96,11 @@ impl<C: Drop> Walk<C> {
     ) -> Result<bool, OutOfMemory>
         requires walk { IsWalk (M.semantics machine.now) (M.belongs machine.now) self.old }
         requires partial { IsPartial (M.semantics machine.now).ops program.now }
-        requires next { IsNext (M.semantics machine.now).ops self.old program.now }
+        requires next { IsNext (M.semantics machine.now) self.old program.now }
         requires names { NamesRun (M.semantics machine.now).instances t mark }
         ensures same { IfOk result
             (λ refutes. IsSameWalk (M.semantics machine.now) (M.belongs machine.now) self.old self.new) }
-        ensures refutes { IfOk result (λ refutes. IsTrue refutes ↔ Shows (M.semantics machine.now) program.now mark) }
+        ensures refutes { IfOk result (λ refutes. IsTrue refutes ↔ Refutes (M.semantics machine.now) program.now mark) }
     {
         if self.families.is_empty() {
             let mut track = Track::start(alloc, machine, t)?;
@@ -111,6 +110,17 @@ impl<C: Drop> Walk<C> {
         let family = &mut self.families[last];
         let refutes = family.refutes(alloc, machine, program, t, mark, meter)?;
         Ok(refutes)
+    }
+
+    // Whether the next partial program may be passed over: it is a twin of a sibling. The root has no sibling.
+    fn skips_next<M: Machine<Cfg = C>>(&self, machine: &M) -> bool
+        requires { IsWalk (M.semantics machine.now) (M.belongs machine.now) self.now }
+        ensures { result ≡ skips_first (pending (M.semantics machine.now) self.now) }
+    {
+        match self.families.last() {
+            Some(family) => family.child_is_twin(machine),
+            None => false,
+        }
     }
 
     // Whether a mark stands for the next partial program.
@@ -124,11 +134,11 @@ impl<C: Drop> Walk<C> {
     ) -> Result<bool, OutOfMemory>
         requires walk { IsWalk (M.semantics machine.now) (M.belongs machine.now) self.old }
         requires partial { IsPartial (M.semantics machine.now).ops program.now }
-        requires next { IsNext (M.semantics machine.now).ops self.old program.now }
+        requires next { IsNext (M.semantics machine.now) self.old program.now }
         ensures same { IfOk result
             (λ stands. IsSameWalk (M.semantics machine.now) (M.belongs machine.now) self.old self.new) }
-        ensures stands { IfOk result (λ stands. IsTrue stands
-            ↔ Stands (M.semantics machine.now) self.old.covering program.now mark) }
+        ensures stands { let m = M.semantics machine.now in IfOk result (λ stands. IsTrue stands
+            ↔ Stands m self.old.covering (as_next m self.old program.now) mark) }
     {
         if !is_in_range(mark, machine.instances()) || !splits_open(mark, program) {
             return Ok(false);
@@ -137,6 +147,7 @@ impl<C: Drop> Walk<C> {
             Mark::Unmet { t, .. } | Mark::Loops { t, .. } if self.covering => {
                 self.refutes(alloc, machine, program, t, mark, meter)
             }
+            Mark::Twin if self.covering => Ok(self.skips_next(machine)),
             _ => Ok(!self.covering || matches!(mark, Mark::Split { .. })),
         }
     }
@@ -161,7 +172,8 @@ impl<C: Drop> Walk<C> {
         }
         self.go_past_next(machine);
         if let Mark::Split { line, .. } = mark {
-            self.families.push(Family::new(alloc, program, line))?;
+            self.families
+                .push(Family::new(alloc, machine, program, line))?;
         }
         Ok(true)
     }

@@ -8,9 +8,10 @@ use Rattle.program_model.specs.declared.instr.Instr.{Instr}
 use Rattle.refutation_tree.specs.declared.evidence.Tree.{Tree}
 use Rattle.refutation_tree.specs.declared.evidence.Outcome.{Outcome}
 use Rattle.refutation_tree.specs.declared.evidence.Answer.{Answer}
-use Rattle.refutation_tree.specs.Covers.{nobody, IsCovered}
+use Rattle.refutation_tree.specs.Covers.{IsCovered}
 use Rattle.refutation_tree.specs.Grammar.{IsFromOneTo, IsTree, last_size}
 use Rattle.refutation_tree.specs.Accepted.{CoversRefuted}
+use Rattle.pointer_symmetry.specs.Twins.{twins}
 
 -- the numbers of the answer are those of the machine and the lines that were asked for, in their ranges
 pub record IsHeaded {C : Type 0} (m : Semantics C) (lines : ℕ) (a : Answer) : Type 0 where
@@ -25,13 +26,13 @@ pub record IsHeaded {C : Type 0} (m : Semantics C) (lines : ℕ) (a : Answer) : 
 -- the tree is of the grammar, and covers, if it has to
 pub record Holds {C : Type 0} (m : Semantics C) (covering : Bool) (tree : Tree) : Type 0 where
   pub is_tree : IsTree m.ops m.instances tree
-  pub covers : IsTrue covering → IsCovered m nobody (empty tree.size) tree.marks
+  pub covers : IsTrue covering → IsCovered m (twins m) (empty tree.size) tree.marks
 
 -- the tree is the one of a size; it is of the grammar, and covers, if the outcome says that its size is refuted
 pub record HoldsAt {C : Type 0} (m : Semantics C) (outcome : Outcome) (size : ℕ) (tree : Tree) : Type 0 where
   pub size_is : tree.size ≡ size
   pub is_tree : IsTree m.ops m.instances tree
-  pub covers : CoversRefuted m nobody outcome tree
+  pub covers : CoversRefuted m (twins m) outcome tree
 
 -- there is a tree for each size that has one, in order
 pub record HasTrees {C : Type 0} (m : Semantics C) (a : Answer) : Type 0 where

@@ -4,9 +4,9 @@ use Rattle.std.proofs.lemmas.Bool.{false≢true}
 use Rattle.std.proofs.lemmas.Result.{IfOk-weaker}
 use Rattle.program_model.specs.Program.{Program}
 use Rattle.refutation_tree.specs.declared.evidence.Answer.{Answer}
-use Rattle.refutation_tree.specs.Covers.{nobody}
 use Rattle.refutation_tree.specs.Grammar.{FitsOutcome}
 use Rattle.refutation_tree.specs.Accepted.{AreEndsFrom, IsAccepted}
+use Rattle.pointer_symmetry.specs.Twins.{twins}
 use Rattle.refutation_check.proofs.Parts.{accepted, judged}
 use Rattle.refutation_check.proofs.accepting.accepts.Goals as goal
 use Rattle.refutation_check.proofs.accepting.accepts.Goals.{then-not-is_headed-via-then-not-is_headed, then-not-is_headed-via-else-not-is_headed+then-not-fits_outcome, then-not-is_headed-via-else-not-is_headed+else-not-fits_outcome+in_ok-has_trees+then-not-branch}
@@ -29,7 +29,7 @@ returns-in-Some g c =
     let m = g.M.Machine.semantics c.args.machine.now in
     let answer : Answer = c.args.answer.now in
     let fits = subst (λ (ops : ℕ). FitsOutcome ops answer answer.outcome) c.ops.ensures.value (c.fits_outcome.ensures.0 c.if-not-fits_outcome.false) in
-    let more : (all : Bool) → (IsTrue all ↔ AreEndsFrom m c.in-Some.program 0 c.as_slice.result.now) → IsTrue all ↔ IsAccepted m nobody c.args.lines answer = λ all ends. (
+    let more : (all : Bool) → (IsTrue all ↔ AreEndsFrom m c.in-Some.program 0 c.as_slice.result.now) → IsTrue all ↔ IsAccepted m (twins m) c.args.lines answer = λ all ends. (
       λ h. accepted m c.args.lines answer (record {
         headed = c.is_headed.ensures.0 c.if-not-is_headed.false;
         fits = fits;
@@ -38,7 +38,7 @@ returns-in-Some g c =
       }),
       λ accepted. ends.1 (subst (AreEndsFrom m c.in-Some.program 0) (sym c.as_slice.ensures) (subst (λ (o : Option Program). IfSome o (λ program. AreEndsFrom m program 0 answer.ends)) c.in-Some.is accepted.ends)),
     ) in
-    IfOk-weaker c.all_end.result (λ all. IsTrue all ↔ AreEndsFrom m c.in-Some.program 0 c.as_slice.result.now) (λ all. IsTrue all ↔ IsAccepted m nobody c.args.lines answer) more c.all_end.ensures
+    IfOk-weaker c.all_end.result (λ all. IsTrue all ↔ AreEndsFrom m c.in-Some.program 0 c.as_slice.result.now) (λ all. IsTrue all ↔ IsAccepted m (twins m) c.args.lines answer) more c.all_end.ensures
 
 pub returns-in-None : goal.returns-in-None
 returns-in-None g c =

@@ -7,14 +7,14 @@ use Rattle.refutation_check.proofs.trees.holds.Goals as goal
 pub returns-then-not-branch : goal.returns-then-not-branch
 returns-then-not-branch g c =
     let m = g.M.Machine.semantics c.args.machine.now in
-    let taken = mark_taken m c.loop-mark.walk.covering c.take.new.self.covering (pending m.ops c.loop-mark.walk) (pending m.ops c.take.new.self) c.as_slice-mark-items.result.now c.loop-mark.mark-index _ c.in_ok-take.field-0 c.loop-mark-test.true c.loop-mark.invariant.on c.in_ok-take.ensures.takes in
+    let taken = mark_taken m c.loop-mark.walk.covering c.take.new.self.covering (pending m c.loop-mark.walk) (pending m c.take.new.self) c.as_slice-mark-items.result.now c.loop-mark.mark-index _ c.in_ok-take.field-0 c.loop-mark-test.true c.loop-mark.invariant.on c.in_ok-take.ensures.takes in
     let whole = marks_stand m c.args.covering c.args.tree.now in
     (λ h. absurd (false≢true h), λ holds. absurd (false≢true (sym c.if-not-branch.true ∙ (taken.0 (whole.0 holds)).0)))
 
 pub loop-mark-preserved : goal.loop-mark-preserved
 loop-mark-preserved g c =
     let m = g.M.Machine.semantics c.args.machine.now in
-    let taken = mark_taken m c.loop-mark.walk.covering c.take.new.self.covering (pending m.ops c.loop-mark.walk) (pending m.ops c.take.new.self) c.as_slice-mark-items.result.now c.loop-mark.mark-index _ c.in_ok-take.field-0 c.loop-mark-test.true c.loop-mark.invariant.on c.in_ok-take.ensures.takes in
+    let taken = mark_taken m c.loop-mark.walk.covering c.take.new.self.covering (pending m c.loop-mark.walk) (pending m c.take.new.self) c.as_slice-mark-items.result.now c.loop-mark.mark-index _ c.in_ok-take.field-0 c.loop-mark-test.true c.loop-mark.invariant.on c.in_ok-take.ensures.takes in
     record {
       walk = c.in_ok-take.ensures.walk;
       on = (λ all. (taken.0 all).1, λ rest. taken.1 (c.if-not-branch.false, rest));
@@ -24,6 +24,6 @@ loop-mark-preserved g c =
 pub returns : goal.returns
 returns g c =
     let m = g.M.Machine.semantics c.args.machine.now in
-    let done = no_mark_left m c.loop-mark.walk.covering (pending m.ops c.loop-mark.walk) c.as_slice-mark-items.result.now c.loop-mark.mark-index c.loop-mark-test.false c.loop-mark.invariant.on in
+    let done = no_mark_left m c.loop-mark.walk.covering (pending m c.loop-mark.walk) c.as_slice-mark-items.result.now c.loop-mark.mark-index c.loop-mark-test.false c.loop-mark.invariant.on in
     let whole = marks_stand m c.args.covering c.args.tree.now in
     (λ h. whole.1 (done.1 (c.is_done.ensures.0 h)), λ holds. c.is_done.ensures.1 (done.0 (whole.0 holds)))

@@ -15,5 +15,6 @@ returns-clause-family g c =
       partial = open_family.partial;
       here = open_family.here;
       left = open_family.left;
+      used = open_family.used;
       tracks = All-set (IsTrack (g.M.Machine.semantics c.args.machine.now) (g.M.Machine.belongs c.args.machine.now) c.place_of.new.self.parent) c.place_of.new.self.tracks.items c.in_ok-place.place c.refutes.new.self c.refutes.ensures.track open_family.tracks;
     }

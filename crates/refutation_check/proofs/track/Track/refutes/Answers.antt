@@ -2,7 +2,7 @@ use Rattle.std.proofs.Common.{ℕ, ◌<◌, ◌∙◌, sym, subst, nat_lt}
 use Rattle.std.specs.Prelude.{◌↔◌, IsTrue, unwrap_or}
 use Rattle.program_model.specs.Run.{Unmet}
 use Rattle.refutation_tree.specs.declared.evidence.Mark.{Mark}
-use Rattle.refutation_check.specs.Inner.Walking.{NamesRun, Shows}
+use Rattle.refutation_check.specs.Inner.Walking.{NamesRun, Refutes}
 use Rattle.refutation_check.proofs.Stepping.{stands_extended, told_unmet, tested_above}
 use Rattle.refutation_check.proofs.track.Track.refutes.Goals as goal
 
@@ -25,6 +25,6 @@ returns-in-Unmet-clause-refutes g c =
     let told = told_unmet m c.args.program.now track.t c.in-Unmet.steps c.missing_at_end-missing.result c.requires.partial c.missing_at_end-missing.ensures.told in
     let names = subst (NamesRun m.instances c.args.self.now.t) c.in-Unmet.is c.requires.names in
     let same = names.0 ∙ sym c.set_out.ensures.instance in
-    subst (λ (mark : Mark). IsTrue (nat_lt 0 c.unwrap_or.result) ↔ Shows m c.args.program.now mark) (sym c.in-Unmet.is)
+    subst (λ (mark : Mark). IsTrue (nat_lt 0 c.unwrap_or.result) ↔ Refutes m c.args.program.now mark) (sym c.in-Unmet.is)
     (tested_above c.unwrap_or.result (unwrap_or c.missing_at_end-missing.result 0) c.unwrap_or.ensures
     (subst (λ (n : ℕ). (0 < unwrap_or c.missing_at_end-missing.result 0) ↔ Unmet m c.args.program.now n c.in-Unmet.steps) (sym same) told))

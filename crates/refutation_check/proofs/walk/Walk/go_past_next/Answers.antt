@@ -1,9 +1,8 @@
 use Rattle.std.proofs.Common.{◌≡◌, ◌∙◌, ◌+◌, ◌-◌, ◌<◌, length, set, take, get_or, rules, sym, subst, arith}
-use Rattle.std.specs.Prelude.{option_to_list}
 use Rattle.std.proofs.lemmas.Bool.{false≢true}
 use Rattle.std.proofs.lemmas.Bool.Decides.{nat_tests}
 use Rattle.std.proofs.lemmas.List.Elements.{All-set}
-use Rattle.refutation_check.specs.Inner.Walking.{IsOpenFamily}
+use Rattle.refutation_check.specs.Inner.Walking.{IsOpenFamily, rooted}
 use Rattle.refutation_check.proofs.Waiting.{next_is_past, next_was_last, still_open}
 use Rattle.refutation_check.proofs.walk.Walk.go_past_next.Goals as goal
 
@@ -18,7 +17,7 @@ returns-else-not-go_on-clause-walk g c =
     let family = c.index_mut-family.result.now in
     let here : get_or walk.families.items last family ≡ family = sym c.index_mut-family.ensures.value in
     let open_family : IsOpenFamily m belongs family = subst (IsOpenFamily m belongs) here (c.requires.families last family (omega (arith, some, count))) in
-    let after = still_open m belongs family c.go_on.new.self open_family c.go_on.ensures.parent c.go_on.ensures.line c.go_on.ensures.tracks (c.go_on.ensures.left.0 c.if-not-go_on.false) in
+    let after = still_open m belongs family c.go_on.new.self open_family c.go_on.ensures.parent c.go_on.ensures.line c.go_on.ensures.used c.go_on.ensures.tracks (c.go_on.ensures.left.0 c.if-not-go_on.false) in
     record {
       some = c.requires.some;
       families = All-set (IsOpenFamily m belongs) walk.families.items last c.go_on.new.self after c.requires.families;
@@ -37,7 +36,7 @@ returns-else-not-go_on-clause-pending g c =
     let family = c.index_mut-family.result.now in
     let here : get_or walk.families.items last family ≡ family = sym c.index_mut-family.ensures.value in
     let open_family : IsOpenFamily m belongs family = subst (IsOpenFamily m belongs) here (c.requires.families last family (omega (arith, some, count))) in
-    next_is_past m.ops last walk.families.items (option_to_list walk.root) family c.go_on.new.self size here open_family.left c.go_on.ensures.parent c.go_on.ensures.line c.go_on.ensures.rank
+    next_is_past m last walk.families.items (rooted walk.root) family c.go_on.new.self size here open_family.left c.go_on.ensures.parent c.go_on.ensures.line c.go_on.ensures.rank
 
 pub returns-then-not-go_on-clause-pending : goal.returns-then-not-go_on-clause-pending
 returns-then-not-go_on-clause-pending g c =
@@ -52,5 +51,5 @@ returns-then-not-go_on-clause-pending g c =
     let here : get_or walk.families.items last family ≡ family = sym c.index_mut-family.ensures.value in
     let open_family : IsOpenFamily m belongs family = subst (IsOpenFamily m belongs) here (c.requires.families last family (omega (arith, some, count))) in
     let pop : take last (set walk.families.items last c.go_on.new.self) ≡ c.pop.new.self.items = search rules in
-    next_was_last m.ops last walk.families.items c.pop.new.self.items (option_to_list walk.root) family c.go_on.new.self size here open_family.left c.go_on.ensures.parent c.go_on.ensures.line c.go_on.ensures.rank
+    next_was_last m last walk.families.items c.pop.new.self.items (rooted walk.root) family c.go_on.new.self size here open_family.left c.go_on.ensures.parent c.go_on.ensures.line c.go_on.ensures.rank
     (λ left. false≢true (sym c.if-not-go_on.true ∙ c.go_on.ensures.left.1 left)) pop

@@ -1,8 +1,7 @@
 use Rattle.std.proofs.Common.{◌≡◌, ◌+◌, ◌-◌, ◌<◌, length, get_or, rules, refl, sym, subst, arith}
-use Rattle.std.specs.Prelude.{option_to_list}
 use Rattle.std.proofs.lemmas.Bool.Decides.{nat_tests}
 use Rattle.std.proofs.lemmas.List.Elements.{All-set}
-use Rattle.refutation_check.specs.Inner.Walking.{IsOpenFamily}
+use Rattle.refutation_check.specs.Inner.Walking.{IsOpenFamily, rooted}
 use Rattle.refutation_check.proofs.Waiting.{next_extends, same_pending}
 use Rattle.refutation_check.proofs.walk.Walk.refutes.Goals as goal
 
@@ -18,7 +17,7 @@ refutes-requires-2-clause-extends g c =
     let family = c.index_mut-family.result.now in
     let here : get_or walk.families.items last family ≡ family = sym c.index_mut-family.ensures.value in
     let open_family : IsOpenFamily m belongs family = subst (IsOpenFamily m belongs) here (c.requires.walk.families last family (omega (arith, some, count))) in
-    next_extends m belongs last walk.families.items (option_to_list walk.root) family c.args.program.now size here open_family c.requires.next
+    next_extends m belongs last walk.families.items (rooted walk.root) family c.args.program.now size here open_family c.requires.next
 
 pub returns-clause-same : goal.returns-clause-same
 returns-clause-same g c =
@@ -38,5 +37,5 @@ returns-clause-same g c =
         root = c.requires.walk.root;
       };
       covering = refl;
-      still = same_pending m.ops last walk.families.items (option_to_list walk.root) family c.refutes-2.new.self size here c.in_ok-refutes.ensures.parent c.in_ok-refutes.ensures.line c.in_ok-refutes.ensures.rank;
+      still = same_pending m last walk.families.items (rooted walk.root) family c.refutes-2.new.self size here c.in_ok-refutes.ensures.parent c.in_ok-refutes.ensures.line c.in_ok-refutes.ensures.rank;
     }
