@@ -41,7 +41,7 @@ end
 family corridor number 0
 sizes 3 8 5
 verdict program 5
-splits 1788
+splits 1276
 program
 act move p0 p1
 set p0 p1
@@ -53,7 +53,7 @@ end
 family corridor number 7
 sizes 10 7 4
 verdict program 5
-splits 1788
+splits 1276
 program
 act move p0 p1
 set p0 p1
@@ -65,7 +65,7 @@ end
 family corridor number 99999999
 sizes 10 7 4
 verdict program 5
-splits 1788
+splits 1276
 program
 act move p0 p1
 set p0 p1

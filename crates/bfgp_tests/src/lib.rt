@@ -9,6 +9,8 @@ mod bounds;
 #[cfg(test)]
 mod calls;
 #[cfg(test)]
+mod canonical_forms;
+#[cfg(test)]
 mod changes;
 #[cfg(test)]
 mod checks;
@@ -46,5 +48,7 @@ mod searches;
 mod single_changes;
 #[cfg(test)]
 mod turns;
+#[cfg(test)]
+mod twins;
 #[cfg(test)]
 mod words;

@@ -4,10 +4,11 @@ use std::alloc::Global;
 use std::process::Abort;
 use std::test::Fail;
 
-// Domains, instances of them, and a program by which each ball is carried by each hand. What is lit is renewed.
-const RUN_FILES: &str = "\
+/// Domains, instances of them, and a program by which each ball is carried by each hand. What is lit is renewed.
+pub const RUN_FILES: &str = "\
 corridor: (define (domain corridor) (:predicates (at ?c) (next ?x ?y)) (:action move :parameters (?x ?y) :precondition (and (at ?x) (next ?x ?y)) :effect (and (not (at ?x)) (at ?y))))
 cells: (define (problem three) (:domain corridor) (:objects a b c) (:init (at a) (next a b) (next b c)) (:goal (at c)))
+eight-cells: (define (problem eight) (:domain corridor) (:objects a b c d e f g h) (:init (at a) (next a b) (next b c) (next c d) (next d e) (next e f) (next f g) (next g h)) (:goal (at h)))
 renew: (define (domain lights) (:predicates (lit ?x)) (:action renew :parameters (?x) :precondition (lit ?x) :effect (and (lit ?x) (not (lit ?x)))))
 gripper: (define (domain gripper-strips) (:predicates (room ?r) (ball ?b) (gripper ?g) (at-robby ?r) (at ?b ?r) (free ?g) (carry ?o ?g)) (:action move :parameters (?from ?to) :precondition (and (room ?from) (room ?to) (at-robby ?from)) :effect (and (at-robby ?to) (not (at-robby ?from)))) (:action pick :parameters (?obj ?room ?gripper) :precondition (and (ball ?obj) (room ?room) (gripper ?gripper) (at ?obj ?room) (at-robby ?room) (free ?gripper)) :effect (and (carry ?obj ?gripper) (not (at ?obj ?room)) (not (free ?gripper)))) (:action drop :parameters (?obj ?room ?gripper) :precondition (and (ball ?obj) (room ?room) (gripper ?gripper) (carry ?obj ?gripper) (at-robby ?room)) :effect (and (at ?obj ?room) (free ?gripper) (not (carry ?obj ?gripper)))))
 two-balls: (define (problem strips-gripper-2) (:domain gripper-strips) (:objects rooma roomb ball2 ball1 left right) (:init (room rooma) (room roomb) (ball ball2) (ball ball1) (at-robby rooma) (free left) (free right) (at ball2 rooma) (at ball1 rooma) (gripper left) (gripper right)) (:goal (and (at ball2 roomb) (at ball1 roomb))))

@@ -3,12 +3,12 @@ ghost use Rattle.program_model.specs.Program.{IsProgram};
 ghost use Rattle.search_tests.specs.Counting.{start_of, next_count, sign_of_count, missing_of};
 
 use flag_rules::{Cond, OutOfMemory, Sign};
-use program_model::{Instr, Machine, Partial};
+use program_model::{Instr, Machine, Partial, Renaming};
 use std::alloc::Global;
 
 /// A machine with some of six counters in a row, each for an instance: one counts down from 3 and has its goal at 0, one
 /// counts down from 1 and never has its goal, one goes to and fro between 1 and 2, one counts up, and two count down from 100
-/// and from 1 and never have their goals.
+/// and from 1 and never have their goals. The one operation names the one pointer, and nothing depends on where that stands.
 #[derive(Debug, Drop)]
 pub struct Counters {
     /// The first of them, from 0.
@@ -66,7 +66,7 @@ fn sign_of_count(count: u32) -> Sign
 }
 
 impl Machine for Counters {
-    ghost use Rattle.std.specs.Prelude.{◌≡◌, ◌+◌, ℕ};
+    ghost use Rattle.std.specs.Prelude.{◌≡◌, ◌+◌, ℕ, [], ◌∷◌};
     ghost use Rattle.flag_rules.specs.declared.flags.Sign.TheVariants as signs;
     ghost use Rattle.search_tests.specs.Counting.{start_of, next_count, sign_of_count, missing_of};
 
@@ -82,6 +82,9 @@ impl Machine for Counters {
       act = λ t op value. record { count = next_count (machine.first + t) value.count; sign = sign_of_count (next_count (machine.first + t) value.count) };
       sign = λ value. value.sign;
       missing = λ t value. missing_of (machine.first + t) value.count;
+      pointers_of = λ op. 0 ∷ [];
+      rename = λ by op. op;
+      renamed = λ by value. value;
     } };
 
     ghost belongs = { λ machine t value. Unit {0} };
@@ -145,6 +148,20 @@ impl Machine for Counters {
     fn copies(meter: &Tally) -> u64 {
         meter.copies
     }
+
+    fn places(&self, _op: u32) -> u8 {
+        1
+    }
+
+    fn pointer_at(&self, _op: u32, _place: u8) -> u8 {
+        0
+    }
+
+    fn rename(&self, _by: &Renaming, op: u32) -> u32 {
+        op
+    }
+
+    fn treats_pointers_alike(&self) {}
 }
 
 /// The program that counts until the count is 0.

@@ -21,6 +21,8 @@ mod pools;
 #[cfg(test)]
 mod programs;
 #[cfg(test)]
+mod renamings;
+#[cfg(test)]
 mod reports;
 #[cfg(test)]
 mod searches;
