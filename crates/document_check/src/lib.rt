@@ -1,0 +1,4 @@
+//! Documents of answers, checked as they are read.
+#![tactic(auto)]
+
+mod stage;
