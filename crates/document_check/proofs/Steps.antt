@@ -28,7 +28,7 @@ use Rattle.refutation_check.proofs.Marks.{marks_stand}
 use Rattle.document_check.specs.Remaining.{LastLine, EndsToCome, InstrsToCome, ProgramToCome, FoundToCome, TreesToCome, MarksToCome, VerdictToCome, HeadingToCome, heading_lines}
 
 -- a list that begins with an element
-begins : {X : Type 0} {x y : X} {xs ys : List X} → x ∷ xs ≡ y ∷ ys → (x ≡ y) × (xs ≡ ys)
+pub begins : {X : Type 0} {x y : X} {xs ys : List X} → x ∷ xs ≡ y ∷ ys → (x ≡ y) × (xs ≡ ys)
 begins {X} {x} {y} {xs} {ys} e =
     let first : x ≡ y = cc e in
     let rest : xs ≡ ys = cc e in
