@@ -1,6 +1,12 @@
--- What a line of one kind says, where the line alone decides it.
-use Rattle.std.specs.Prelude.{◌≡◌, ℕ, ◌<◌, List}
+-- The lines of an answer document: what each says by itself, and which there are.
+use Rattle.std.specs.Prelude.{◌≡◌, ℕ, ◌<◌, ◌≤◌, List, [], ◌++◌, length, slice_index_or, codes}
+use Rattle.flag_rules.specs.Line.{then_number}
 use Rattle.program_model.specs.declared.alphabet.TheConstants.{MAX_LINES}
+use Rattle.program_model.specs.declared.machine.TheConstants.{MAX_INSTANCES, MAX_POINTERS}
+use Rattle.program_model.specs.declared.instr.Instr.{Instr}
+use Rattle.program_model.specs.Program.{IsInstr}
+use Rattle.program_text.specs.Texts.{instr_text}
+use Rattle.refutation_tree.specs.declared.ranges.TheConstants.{MAX_STEPS}
 use Rattle.refutation_tree.specs.declared.evidence.Mark.{Mark}
 use Rattle.refutation_tree.specs.declared.evidence.Mark.TheVariants as marks
 use Rattle.refutation_tree.specs.declared.evidence.Outcome.{Outcome}
@@ -36,3 +42,23 @@ pub record IsVerdictOf (lines instances : ℕ) (text : List ℕ) (outcome : Outc
   pub written : text ≡ verdict_line outcome
   pub size : IsFromOneTo lines (last_size lines outcome)
   pub instance : NamesInstance instances outcome
+
+-- the text is a line of a document of the grammar, where these are the texts of the operations
+pub data IsLine (texts : List (List ℕ)) (text : List ℕ) : Type 0 where
+  is_form : text ≡ codes "bfgp answer 1" → IsLine texts text
+  is_pointers : (count : ℕ) → IsFromOneTo MAX_POINTERS count → text ≡ codes "pointers" ++ then_number count → IsLine texts text
+  is_lines : (count : ℕ) → IsFromOneTo MAX_LINES count → text ≡ codes "lines" ++ then_number count → IsLine texts text
+  is_instances : (count : ℕ) → IsFromOneTo MAX_INSTANCES count → text ≡ codes "instances" ++ then_number count → IsLine texts text
+  is_verdict : (lines instances : ℕ) (outcome : Outcome) → lines ≤ MAX_LINES → instances ≤ MAX_INSTANCES → IsVerdictOf lines instances text outcome → IsLine texts text
+  is_tree : (size : ℕ) → IsFromOneTo MAX_LINES size → text ≡ codes "tree" ++ then_number size → IsLine texts text
+  is_mark : (instances : ℕ) (mark : Mark) → instances ≤ MAX_INSTANCES → IsMarkOf instances text mark → IsLine texts text
+  is_program : text ≡ codes "program" → IsLine texts text
+  is_instr : (lines line : ℕ) (instr : Instr) → lines ≤ MAX_LINES → line < lines → IsInstr (length texts) lines line instr → text ≡ instr_text texts instr → IsLine texts text
+  is_ends : (t steps : ℕ) → t < MAX_INSTANCES → steps ≤ MAX_STEPS → text ≡ codes "ends" ++ then_number t ++ then_number steps → IsLine texts text
+  is_end : text ≡ codes "end of answer" → IsLine texts text
+
+-- the line is the text of an operation
+pub record IsOperationLine (texts : List (List ℕ)) (text : List ℕ) : Type 0 where
+  pub op : ℕ
+  pub within : op < length texts
+  pub written : text ≡ slice_index_or texts op []
