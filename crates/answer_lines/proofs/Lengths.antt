@@ -91,3 +91,11 @@ short_or_operation texts text (is_program is) = short_like text (codes "program"
 short_or_operation texts text (is_instr lines line instr few within there is) = short_instr texts text instr (plain_instr texts lines line instr (omega (arith, few)) within there) is
 short_or_operation texts text (is_ends t steps h k is) = short_like text _ is (after_number (codes "ends") t steps (omega arith) (omega (arith, h)) (omega (arith, k)))
 short_or_operation texts text (is_end is) = short_like text (codes "end of answer") is (omega arith)
+
+-- there is room for each line where there is for the short ones and for the texts of the operations
+pub line_fits : (texts : List (List ℕ)) (text : List ℕ) (room : ℕ) → 64 ≤ room → ((op : ℕ) → op < length texts → length (slice_index_or texts op []) ≤ room) → IsLine texts text
+    → length text ≤ room
+line_fits texts text room plain each is = elim (short_or_operation texts text is) [
+  | inl short ↦ omega (arith, short, plain)
+  | inr operation ↦ subst (λ (l : List ℕ). length l ≤ room) (sym operation.written) (each operation.op operation.within)
+]
