@@ -5,7 +5,7 @@ use Rattle.program_model.specs.Program.{Program}
 use Rattle.refutation_tree.specs.declared.evidence.Mark.{Mark}
 use Rattle.refutation_tree.specs.declared.evidence.Mark.TheVariants as marks
 use Rattle.refutation_tree.specs.Grammar.{IsInRange}
-use Rattle.answer_lines.specs.Lines.{SplitsWithin, IsMarkOf}
+use Rattle.answer_reader.specs.Inner.LineFacts.{SplitsWithin, IsMarkOf}
 use Rattle.answer_reader.specs.Inner.Following.{MayMark, IsMarkOn}
 use Rattle.answer_reader.proofs.Told.{IsSmall, same_mark}
 

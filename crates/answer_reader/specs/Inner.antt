@@ -1,4 +1,6 @@
+pub mod Cuts
 pub mod Unread
+pub mod LineFacts
 pub mod Following
 pub mod ReadingOn
 pub mod Pending

@@ -18,7 +18,7 @@ use Rattle.refutation_tree.specs.Grammar.{FitsOutcome, HasProgram, IsFromOneTo, 
 use Rattle.refutation_tree.specs.Accepted.{AreEndsFrom, CoversRefuted, IsAccepted}
 use Rattle.pointer_symmetry.specs.Twins.{twins}
 use Rattle.answer_writer.specs.Document.{head_lines, document_lines, program_lines, ends_lines, tree_lines, verdict_line}
-use Rattle.answer_reader.specs.Inner.LineFacts.{NamesInstance}
+use Rattle.answer_lines.specs.Lines.{NamesInstance}
 use Rattle.document_check.specs.Documents.{IsAcceptedDocument}
 use Rattle.document_check.specs.Remaining.{LastLine, EndsToCome, InstrsToCome, ProgramToCome, FoundToCome, TreesToCome, VerdictToCome, HeadingToCome, heading_lines}
 

@@ -17,7 +17,7 @@ use Rattle.refutation_tree.specs.Grammar.{IsFromOneTo, IsTree, last_size}
 use Rattle.refutation_tree.specs.Accepted.{AreEndsFrom, CoversRefuted}
 use Rattle.pointer_symmetry.specs.Twins.{twins}
 use Rattle.answer_writer.specs.Document.{verdict_line, mark_line, tree_lines, ends_lines}
-use Rattle.answer_reader.specs.Inner.LineFacts.{NamesInstance}
+use Rattle.answer_lines.specs.Lines.{NamesInstance}
 use Rattle.refutation_check.specs.Inner.Walking.{AllStand}
 
 -- the last line alone
