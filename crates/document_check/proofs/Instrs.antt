@@ -2,7 +2,7 @@
 use Rattle.std.proofs.Common.{◌≡◌, ℕ, ◌+◌, ◌-◌, ◌<◌, List, [], ◌∷◌, ◌++◌, map, length, Some, refl, sym, ◌∙◌, ap, subst, arith}
 use Rattle.std.specs.Prelude.{Option, None, IsSome, ◌↔◌, codes, option_and_then}
 use Rattle.std.proofs.lemmas.List.{append_assoc, append-nil, length-append}
-use Rattle.std.proofs.lemmas.Option.{none-some}
+use Rattle.std.proofs.lemmas.Bool.{false≢true}
 use Rattle.program_model.specs.declared.instr.Instr.{Instr}
 use Rattle.program_model.specs.declared.instr.Instr.TheVariants.{End}
 use Rattle.program_model.specs.Semantics.{Semantics}
@@ -26,7 +26,7 @@ record NextInstr (ops size : ℕ) (before rest : Program) : Type 0 where
 
 next_instr : (ops size : ℕ) (before rest : Program) → IsProgram ops (before ++ rest) → length (before ++ rest) ≡ size → length before < size → NextInstr ops size before rest
 next_instr ops size before [] is size_is within = let count = ap length (append-nil before) in absurd (omega (arith, size_is, within, count))
-next_instr ops size before (None ∷ later) is size_is within = (let there = subst IsSome (line_after before later None) (is.whole (length before) (omega (arith, size_is, within))) in absurd (none-some there.0 there.1))
+next_instr ops size before (None ∷ later) is size_is within = (let there = subst IsSome (line_after before later None) (is.whole (length before) (omega (arith, size_is, within))) in absurd (false≢true there))
 next_instr ops size before (Some instr ∷ later) is size_is within = record {
   instr = instr;
   later = later;
