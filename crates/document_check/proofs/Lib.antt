@@ -1,3 +1,4 @@
 pub mod Whole
 pub mod Steps
 pub mod Instrs
+pub mod Stages

@@ -1,2 +1,4 @@
 pub mod Documents
 pub mod Remaining
+pub mod Standing
+pub mod Inner

@@ -13,7 +13,7 @@ use Rattle.refutation_tree.specs.declared.evidence.Tree.{Tree}
 use Rattle.refutation_tree.specs.Covers.{Skips, Child, children, Covers}
 use Rattle.refutation_tree.specs.Grammar.{IsInRange, child_programs, AreTrees}
 use Rattle.pointer_symmetry.specs.Twins.{twins}
-use Rattle.refutation_check.specs.Inner.Walking.{Stands, AllStand, brought, rooted}
+use Rattle.refutation_check.specs.Walking.{Stands, AllStand, brought, rooted}
 use Rattle.refutation_check.specs.Inner.Judging.{Holds}
 
 -- the programs of the children

@@ -20,7 +20,7 @@ use Rattle.refutation_tree.specs.Grammar.{child_programs}
 use Rattle.refutation_tree.proofs.Children.{count_children, child_at, some_children, left_from, one_more, without_first, with_same, without_empty}
 use Rattle.pointer_symmetry.specs.Used.{AreUsed}
 use Rattle.pointer_symmetry.specs.Twins.{twins}
-use Rattle.refutation_check.specs.Inner.Walking.{waiting, waiting_in, IsOpenFamily, rooted, skips_first}
+use Rattle.refutation_check.specs.Walking.{waiting, waiting_in, IsOpenFamily, rooted, skips_first}
 
 -- ---- children, and whether they are passed over
 

@@ -4,7 +4,7 @@ ghost use Rattle.program_model.specs.Alphabet.{alphabet};
 ghost use Rattle.program_model.specs.Program.{Extends, IsPartial};
 ghost use Rattle.refutation_tree.specs.Grammar.{child_programs};
 ghost use Rattle.pointer_symmetry.specs.Used.{AreUsed};
-ghost use Rattle.refutation_check.specs.Inner.Walking.{HasTrackAt, IsOpenFamily, NamesRun, Refutes, skips_first, waiting};
+ghost use Rattle.refutation_check.specs.Walking.{HasTrackAt, IsOpenFamily, NamesRun, Refutes, skips_first, waiting};
 
 use crate::track::Track;
 use flag_rules::OutOfMemory;

@@ -9,7 +9,7 @@ use program_model::{MAX_LINES, MAX_OPS, Machine, Partial, rank_of};
 use refutation_tree::{Answer, MAX_STEPS, Outcome};
 
 /// The greatest size that has a tree, where so many lines were asked for.
-pub(crate) fn last_size(lines: u8, outcome: Outcome) -> u8
+pub fn last_size(lines: u8, outcome: Outcome) -> u8
     ensures { result ≡ last_size lines outcome }
 {
     match outcome {
@@ -21,7 +21,7 @@ pub(crate) fn last_size(lines: u8, outcome: Outcome) -> u8
 }
 
 /// Whether an outcome says that no program of a size solves every instance.
-pub(crate) fn says_refuted(outcome: Outcome, size: u8) -> bool
+pub fn says_refuted(outcome: Outcome, size: u8) -> bool
     ensures { IsTrue result ↔ SaysRefuted outcome size }
 {
     match outcome {

@@ -16,3 +16,5 @@ mod trees;
 mod walk;
 
 pub use accepting::accepts;
+pub use grammar::{last_size, says_refuted};
+pub use walk::Walk;

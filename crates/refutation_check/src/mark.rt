@@ -1,6 +1,6 @@
 ghost use Rattle.std.specs.Prelude.{◌↔◌, IsTrue};
 ghost use Rattle.refutation_tree.specs.Grammar.{IsInRange};
-ghost use Rattle.refutation_check.specs.Inner.Walking.{SplitsOpen};
+ghost use Rattle.refutation_check.specs.Walking.{SplitsOpen};
 
 use program_model::Partial;
 use refutation_tree::{MAX_SPLITS, MAX_STEPS, Mark};

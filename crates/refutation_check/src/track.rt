@@ -2,7 +2,7 @@ ghost use Rattle.std.specs.Prelude.{◌≡◌, ◌<◌, ◌≤◌, ◌↔◌, Is
 ghost use Rattle.program_model.specs.Semantics.{Semantics};
 ghost use Rattle.program_model.specs.Program.{Program, Extends, IsPartial};
 ghost use Rattle.refutation_check.specs.Inner.Runs.{IsTrack, StandsAt};
-ghost use Rattle.refutation_check.specs.Inner.Walking.{NamesRun, Refutes};
+ghost use Rattle.refutation_check.specs.Walking.{NamesRun, Refutes};
 
 use crate::configuration::Configuration;
 use crate::run::Run;

@@ -1,7 +1,7 @@
 ghost use Rattle.std.specs.Prelude.{◌≡◌, ◌<◌, ◌≤◌, ◌↔◌, [], IsTrue, IfOk, IfSome, IfNone, Some, drop};
 ghost use Rattle.program_model.specs.Semantics.{Semantics};
 ghost use Rattle.program_model.specs.Program.{IsPartial, empty};
-ghost use Rattle.refutation_check.specs.Inner.Walking.{IsNext, IsSameWalk, IsWalk, NamesRun, Refutes, Stands, Takes, as_next, pending, rooted, skips_first};
+ghost use Rattle.refutation_check.specs.Walking.{IsNext, IsSameWalk, IsWalk, NamesRun, Refutes, Stands, Takes, as_next, pending, rooted, skips_first};
 
 use crate::family::Family;
 use crate::mark::{is_in_range, splits_open};
@@ -14,7 +14,7 @@ use std::alloc::Global;
 /// A walk over the marks of a tree. Each mark stands for the next of the partial programs that are pending: the children of
 /// those that were split, on a stack; at first the root.
 #[derive(Drop)]
-pub(crate) struct Walk<C: Drop> {
+pub struct Walk<C: Drop> {
     covering: bool,
     root: Option<Partial>,
     families: Vec<Family<C>>,
@@ -42,6 +42,28 @@ impl<C: Drop> Walk<C> {
         }
     }
 
+    /// Begins the walk over another tree.
+    pub fn begin<M: Machine<Cfg = C>>(&mut self, machine: &M, size: u8, covering: bool)
+        requires from_one { 0 < size }
+        requires short { size ≤ MAX_LINES }
+        requires walk { IsWalk (M.semantics machine.now) (M.belongs machine.now) self.old }
+        ensures walk { IsWalk (M.semantics machine.now) (M.belongs machine.now) self.new }
+        ensures covering { self.new.covering ≡ covering }
+        ensures pending { pending (M.semantics machine.now) self.new ≡ rooted (Some (empty size)) }
+    {
+        self.families.clear();
+        self.root = Some(Partial::empty(size));
+        self.covering = covering;
+    }
+
+    /// A walk.
+    pub fn new<M: Machine<Cfg = C>>(alloc: Global, machine: &M) -> Result<Walk<C>, OutOfMemory>
+        ensures walk { IfOk result (IsWalk (M.semantics machine.now) (M.belongs machine.now)) }
+    {
+        let _ops = machine.ops();
+        Ok(Walk::start(alloc, machine, 1, false))
+    }
+
     // The next partial program that is pending, if there is one.
     fn next<M: Machine<Cfg = C>>(&self, machine: &M) -> Option<Partial>
         requires { IsWalk (M.semantics machine.now) (M.belongs machine.now) self.now }
@@ -59,7 +81,7 @@ impl<C: Drop> Walk<C> {
     }
 
     /// Whether each partial program has its mark.
-    pub(crate) fn is_done<M: Machine<Cfg = C>>(&self, machine: &M) -> bool
+    pub fn is_done<M: Machine<Cfg = C>>(&self, machine: &M) -> bool
         requires { IsWalk (M.semantics machine.now) (M.belongs machine.now) self.now }
         ensures { IsTrue result ↔ (pending (M.semantics machine.now) self.now ≡ []) }
     {

@@ -1,6 +1,6 @@
 use Rattle.std.proofs.Common.{◌∙◌, sym}
 use Rattle.std.proofs.lemmas.Bool.{false≢true}
-use Rattle.refutation_check.specs.Inner.Walking.{pending}
+use Rattle.refutation_check.specs.Walking.{pending}
 use Rattle.refutation_check.proofs.Marks.{marks_stand, mark_taken, no_mark_left}
 use Rattle.refutation_check.proofs.trees.holds.Goals as goal
 

@@ -1,7 +1,7 @@
 use Rattle.std.proofs.Common.{◌≡◌, Some, drop}
 use Rattle.std.specs.Prelude.{◌↔◌}
 use Rattle.program_model.specs.Program.{empty}
-use Rattle.refutation_check.specs.Inner.Walking.{AllStand, IsWalk, pending, rooted}
+use Rattle.refutation_check.specs.Walking.{AllStand, IsWalk, pending, rooted}
 use Rattle.refutation_check.proofs.trees.holds.Given as goal
 
 abbrev pub invariant-loop-mark : goal.invariant-loop-mark

@@ -2,7 +2,7 @@ use Rattle.std.proofs.Common.{ℕ, ◌<◌, ◌∙◌, sym, subst, nat_lt}
 use Rattle.std.specs.Prelude.{◌↔◌, IsTrue, unwrap_or}
 use Rattle.program_model.specs.Run.{Unmet}
 use Rattle.refutation_tree.specs.declared.evidence.Mark.{Mark}
-use Rattle.refutation_check.specs.Inner.Walking.{NamesRun, Refutes}
+use Rattle.refutation_check.specs.Walking.{NamesRun, Refutes}
 use Rattle.refutation_check.proofs.Stepping.{stands_extended, told_unmet, tested_above}
 use Rattle.refutation_check.proofs.track.Track.refutes.Goals as goal
 

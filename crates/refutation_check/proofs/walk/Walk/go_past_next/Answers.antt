@@ -2,7 +2,7 @@ use Rattle.std.proofs.Common.{◌≡◌, ◌∙◌, ◌+◌, ◌-◌, ◌<◌, l
 use Rattle.std.proofs.lemmas.Bool.{false≢true}
 use Rattle.std.proofs.lemmas.Bool.Decides.{nat_tests}
 use Rattle.std.proofs.lemmas.List.Elements.{All-set}
-use Rattle.refutation_check.specs.Inner.Walking.{IsOpenFamily, rooted}
+use Rattle.refutation_check.specs.Walking.{IsOpenFamily, rooted}
 use Rattle.refutation_check.proofs.Waiting.{next_is_past, next_was_last, still_open}
 use Rattle.refutation_check.proofs.walk.Walk.go_past_next.Goals as goal
 

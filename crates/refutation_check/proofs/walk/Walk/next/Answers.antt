@@ -3,7 +3,7 @@ use Rattle.std.specs.Prelude.{All, Option, option_to_list, slice_get, Some, None
 use Rattle.std.proofs.lemmas.List.Elements.{All-head}
 use Rattle.program_model.specs.Program.{Program, IsPartial}
 use Rattle.refutation_check.specs.declared.family.Family.{Family}
-use Rattle.refutation_check.specs.Inner.Walking.{rooted}
+use Rattle.refutation_check.specs.Walking.{rooted}
 use Rattle.refutation_check.proofs.Waiting.{next_is_child, next_is_root}
 use Rattle.refutation_check.proofs.walk.Walk.next.Goals as goal
 

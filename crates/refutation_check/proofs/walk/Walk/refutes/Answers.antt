@@ -1,7 +1,7 @@
 use Rattle.std.proofs.Common.{◌≡◌, ◌+◌, ◌-◌, ◌<◌, length, get_or, rules, refl, sym, subst, arith}
 use Rattle.std.proofs.lemmas.Bool.Decides.{nat_tests}
 use Rattle.std.proofs.lemmas.List.Elements.{All-set}
-use Rattle.refutation_check.specs.Inner.Walking.{IsOpenFamily, rooted}
+use Rattle.refutation_check.specs.Walking.{IsOpenFamily, rooted}
 use Rattle.refutation_check.proofs.Waiting.{next_extends, same_pending}
 use Rattle.refutation_check.proofs.walk.Walk.refutes.Goals as goal
 

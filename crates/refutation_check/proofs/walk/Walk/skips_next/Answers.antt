@@ -1,7 +1,7 @@
 use Rattle.std.proofs.Common.{◌∙◌, ◌-◌, ◌≡◌, sym, length, subst, List}
 use Rattle.std.specs.Prelude.{slice_get, Some, None}
 use Rattle.refutation_check.specs.declared.family.Family.{Family}
-use Rattle.refutation_check.specs.Inner.Walking.{rooted}
+use Rattle.refutation_check.specs.Walking.{rooted}
 use Rattle.refutation_check.proofs.Waiting.{skips_as_last, skips_no_root}
 use Rattle.refutation_check.proofs.walk.Walk.skips_next.Goals as goal
 

@@ -3,7 +3,7 @@ use Rattle.std.proofs.lemmas.List.Elements.{All-push, All-same}
 use Rattle.refutation_tree.specs.declared.evidence.Mark.{Mark}
 use Rattle.refutation_tree.specs.Covers.{Child, children}
 use Rattle.pointer_symmetry.specs.Twins.{twins}
-use Rattle.refutation_check.specs.Inner.Walking.{IsOpenFamily, Stands, SplitsOpen, as_next, brought, pending, rooted}
+use Rattle.refutation_check.specs.Walking.{IsOpenFamily, Stands, SplitsOpen, as_next, brought, pending, rooted}
 use Rattle.refutation_check.proofs.Marks.{mark_stood}
 use Rattle.refutation_check.proofs.Waiting.{newly_open, split_pending}
 use Rattle.refutation_check.proofs.walk.Walk.take.Goals as goal
