@@ -23,7 +23,7 @@ use Rattle.refutation_tree.specs.Accepted.{AreEndsFrom, CoversRefuted, SaysRefut
 use Rattle.pointer_symmetry.specs.Twins.{twins}
 use Rattle.answer_writer.specs.Document.{verdict_line, mark_line, tree_lines, ends_lines}
 use Rattle.answer_lines.specs.Lines.{IsVerdictOf, NamesInstance}
-use Rattle.refutation_check.specs.Inner.Walking.{AllStand, Stands, rooted}
+use Rattle.refutation_check.specs.Walking.{AllStand, Stands, rooted}
 use Rattle.refutation_check.proofs.Marks.{marks_stand}
 use Rattle.document_check.specs.Remaining.{LastLine, EndsToCome, InstrsToCome, ProgramToCome, FoundToCome, TreesToCome, MarksToCome, VerdictToCome, HeadingToCome, heading_lines}
 

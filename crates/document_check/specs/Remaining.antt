@@ -18,7 +18,7 @@ use Rattle.refutation_tree.specs.Accepted.{AreEndsFrom, CoversRefuted}
 use Rattle.pointer_symmetry.specs.Twins.{twins}
 use Rattle.answer_writer.specs.Document.{verdict_line, mark_line, tree_lines, ends_lines}
 use Rattle.answer_lines.specs.Lines.{NamesInstance}
-use Rattle.refutation_check.specs.Inner.Walking.{AllStand}
+use Rattle.refutation_check.specs.Walking.{AllStand}
 
 -- the last line alone
 abbrev pub LastLine : List (List ℕ) → Type 0

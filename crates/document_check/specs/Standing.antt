@@ -44,7 +44,7 @@ pub record IsReadTo (ops : ℕ) (program : Program) (line : ℕ) : Type 0 where
 -- a size that has a tree, or 0, where so many lines were asked for
 pub record IsTreeSize (lines size last : ℕ) : Type 0 where
   pub in_range : IsFromOneTo MAX_LINES lines
-  pub last : IsFromOneTo lines last
+  pub asked : IsFromOneTo lines last
   pub within : size ≤ last
 
 -- what has to be so where such a line comes next

