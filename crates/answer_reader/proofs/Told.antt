@@ -1,7 +1,7 @@
 -- What a line tells: each line is of words, and no two that may stand at one place lead on to different places.
-use Rattle.std.proofs.Common.{◌≡◌, ℕ, ◌+◌, ◌<◌, ◌≤◌, true, false, List, [], ◌∷◌, ◌++◌, length, get_or, refl, sym, ◌∙◌, ap, subst, arith, append_assoc}
-use Rattle.std.specs.Prelude.{Some, All, codes}
-use Rattle.std.proofs.lemmas.List.Elements.{All-nil, All-cons, All-head}
+use Rattle.std.proofs.Common.{◌≡◌, ℕ, ◌+◌, ◌<◌, ◌≤◌, ◌^◌, false, List, [], ◌∷◌, ◌++◌, length, refl, sym, ◌∙◌, ap, subst, arith}
+use Rattle.std.specs.Prelude.{Some, All, codes, ◌==◌}
+use Rattle.std.proofs.lemmas.List.Elements.{All-head}
 use Rattle.program_model.specs.declared.instr.Instr.{Instr}
 use Rattle.program_model.specs.declared.alphabet.TheConstants.{MAX_LINES}
 use Rattle.program_model.specs.Program.{Program}
@@ -10,19 +10,13 @@ use Rattle.refutation_tree.specs.declared.evidence.Mark.{Mark}
 use Rattle.refutation_tree.specs.declared.evidence.Mark.TheVariants as marks
 use Rattle.refutation_tree.specs.declared.evidence.Tree.{Tree}
 use Rattle.refutation_tree.specs.declared.evidence.Outcome.{Outcome}
-use Rattle.refutation_tree.specs.declared.evidence.Outcome.TheVariants as outcomes
-use Rattle.flag_rules.specs.Line.{then_number}
-use Rattle.answer_writer.specs.Document.{verdict_line, mark_line}
 use Rattle.refutation_tree.specs.Grammar.{IsInRange}
-use Rattle.answer_reader.specs.Inner.Following.{Place, at_form, at_pointers, at_lines, at_instances, at_verdict, at_tree, at_mark, at_program, at_instr, at_ends, at_end, at_rest, past_marks, past_ends, past_instrs, MayMark, brought, MayBeTold, Leads}
-use Rattle.std.proofs.Common.{◌^◌}
-use Rattle.std.specs.Prelude.{IsTrue, decimal, ◌==◌}
-use Rattle.std.specs.List.{slice_split, join_with_byte}
-use Rattle.std.proofs.lemmas.Fmt.{decimal_injective}
-use Rattle.program_text.specs.Names.{is_word, IsWorded, AreNames}
-use Rattle.program_text.specs.Lines.{is_blank}
-use Rattle.program_text.proofs.Spelled.{line_as_written, split_words, decimal_word, plain_instr, instr_worded}
+use Rattle.answer_reader.specs.Inner.Following.{Place, at_form, at_pointers, at_lines, at_instances, at_verdict, at_tree, at_mark, at_program, at_instr, at_ends, at_end, at_rest, past_marks, past_ends, past_instrs, MayMark, brought, Leads}
+use Rattle.program_text.specs.Names.{IsWorded, AreNames}
+use Rattle.program_text.proofs.Spelled.{line_as_written, plain_instr, instr_worded}
 use Rattle.program_text.proofs.Apart.{same_instr_of_lines}
+use Rattle.answer_lines.proofs.Worded.{one_word, three_words, one_number, number_worded, IsSmall, same_mark, mark_worded, same_verdict, verdict_worded, one_ends, ends_worded}
+use Rattle.answer_lines.proofs.OneReading.{small_outcome}
 use Rattle.answer_reader.proofs.Places.{AreFirstTrees, IsTreePlace, IsMarkPlace, IsPlace, size_of_place}
 
 -- ---- numbers that can be told
@@ -35,12 +29,6 @@ small_mark instances size q marks.Twin few short h may = tt
 small_mark instances size q marks.Waiting few short h may = tt
 small_mark instances size q marks.Solved few short h may = tt
 small_mark instances size q (marks.AtLimit t) few short h may = omega (arith, h)
-
-small_outcome : (lines instances : ℕ) (outcome : Outcome) → lines ≤ 64 → instances ≤ 64 → MayBeTold lines instances outcome → IsSmallOutcome outcome
-small_outcome lines instances (outcomes.Program size) few some told = omega (arith, told.0.1)
-small_outcome lines instances outcomes.Nothing few some told = tt
-small_outcome lines instances (outcomes.SpentExpansions size) few some told = omega (arith, told.0.1)
-small_outcome lines instances (outcomes.SpentRun size t) few some told = (omega (arith, told.0.1), omega (arith, told.1))
 
 -- ---- limits at a place
 
@@ -61,17 +49,17 @@ small_at ops h trees ms q qs mark known in_range may =
 pub same_next : (texts : List (List ℕ)) (place : Place) (text : List ℕ) (next other : Place) → AreNames texts → IsPlace (length texts) place → Leads texts place text next → Leads texts place text other → next ≡ other
 same_next texts at_form text next other names known a b = a.1 ∙ sym b.1
 same_next texts at_pointers text next other names known a b =
-    let same = same_number (codes "pointers") a.0 b.0 refl (omega (arith, a.1.1)) (omega (arith, b.1.1)) (sym a.2 ∙ b.2) in
+    let same = one_number (codes "pointers") a.0 b.0 (omega (arith, a.1.1)) (omega (arith, b.1.1)) (sym a.2 ∙ b.2) in
     a.3 ∙ ap at_lines same ∙ sym b.3
 same_next texts (at_lines k) text next other names known a b =
-    let same = same_number (codes "lines") a.0 b.0 refl (omega (arith, a.1.1)) (omega (arith, b.1.1)) (sym a.2 ∙ b.2) in
+    let same = one_number (codes "lines") a.0 b.0 (omega (arith, a.1.1)) (omega (arith, b.1.1)) (sym a.2 ∙ b.2) in
     a.3 ∙ ap (at_instances k) same ∙ sym b.3
 same_next texts (at_instances k n) text next other names known a b =
-    let same = same_number (codes "instances") a.0 b.0 refl (omega (arith, a.1.1)) (omega (arith, b.1.1)) (sym a.2 ∙ b.2) in
+    let same = one_number (codes "instances") a.0 b.0 (omega (arith, a.1.1)) (omega (arith, b.1.1)) (sym a.2 ∙ b.2) in
     a.3 ∙ ap (at_verdict k n) same ∙ sym b.3
 same_next texts (at_verdict k n t) text next other names known a b =
-    let lines : n ≤ 64 = omega (arith, known.1.1) in
-    let instances : t ≤ 64 = omega (arith, known.2.1) in
+    let lines : n ≤ 2 ^ 8 = omega (arith, known.1.1) in
+    let instances : t ≤ 2 ^ 8 = omega (arith, known.2.1) in
     let same = same_verdict a.0 b.0 (small_outcome n t a.0 lines instances a.1) (small_outcome n t b.0 lines instances b.1) (sym a.2 ∙ b.2) in
     a.3 ∙ ap (λ (o : Outcome). at_tree (record { pointers = k; lines = n; instances = t; outcome = o }) []) same ∙ sym b.3
 same_next texts (at_tree h trees) text next other names known a b = a.1 ∙ sym b.1
@@ -84,7 +72,8 @@ same_next texts (at_instr h trees size program) text next other names known a b 
     let same = same_instr_of_lines texts size (length program) (length program) a.0 b.0 names few known.few known.few a.1 b.1 (sym a.2 ∙ b.2) in
     a.3 ∙ ap (λ (i : Instr). past_instrs h trees size (program ++ Some i ∷ [])) same ∙ sym b.3
 same_next texts (at_ends h trees program ends) text next other names known a b =
-    let same = same_ends (length ends) a.0 b.0 (omega (arith, known.few, few_instances (length texts) h trees known.place.first)) (omega (arith, a.1)) (omega (arith, b.1)) (sym a.2 ∙ b.2) in
+    let few : length ends < 2 ^ 64 = omega (arith, known.few, few_instances (length texts) h trees known.place.first) in
+    let same = (one_ends (length ends) (length ends) a.0 b.0 few few (omega (arith, a.1)) (omega (arith, b.1)) (sym a.2 ∙ b.2)).1 in
     a.3 ∙ ap (λ (j : ℕ). past_ends h trees program (ends ++ j ∷ [])) same ∙ sym b.3
 same_next texts (at_end h trees program ends) text next other names known a b = a.1 ∙ sym b.1
 same_next texts (at_rest answer) text next other names known a b = absurd a
