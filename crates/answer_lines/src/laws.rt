@@ -1,6 +1,5 @@
 ghost use Rattle.std.specs.Prelude.{◌≡◌, ℕ, ◌<◌, ◌≤◌, ◌^◌, ◌++◌, List, IsTrue, codes, length};
 ghost use Rattle.flag_rules.specs.Line.{then_number};
-ghost use Rattle.program_model.specs.declared.instr.Instr.{Instr};
 ghost use Rattle.program_text.specs.Names.{AreNames};
 ghost use Rattle.refutation_tree.specs.declared.evidence.Mark.{Mark};
 ghost use Rattle.refutation_tree.specs.declared.evidence.Outcome.{Outcome};

@@ -1,10 +1,9 @@
 -- The marks of a partial program, and those that a line alone tells.
-use Rattle.std.proofs.Common.{◌≡◌, ℕ, ◌≤◌, ◌^◌, List, length, sym, ◌∙◌, subst, arith}
+use Rattle.std.proofs.Common.{ℕ, ◌≤◌, ◌^◌, List, length, subst, arith}
 use Rattle.program_model.specs.declared.alphabet.TheConstants.{MAX_LINES}
 use Rattle.program_model.specs.Program.{Program}
 use Rattle.refutation_tree.specs.declared.evidence.Mark.{Mark}
 use Rattle.refutation_tree.specs.declared.evidence.Mark.TheVariants as marks
-use Rattle.refutation_tree.specs.Grammar.{IsInRange}
 use Rattle.answer_lines.specs.Lines.{SplitsWithin, IsMarkOf}
 use Rattle.answer_reader.specs.Inner.Following.{MayMark, IsMarkOn}
 use Rattle.answer_lines.proofs.OneReading.{one_mark}
