@@ -1,5 +1,5 @@
 -- How long lines may be: all are short but the texts of operations.
-use Rattle.std.proofs.Common.{◌≡◌, ℕ, ◌+◌, ◌<◌, ◌≤◌, ◌^◌, List, [], ◌++◌, length, refl, ap, ◌⊎◌, inl, inr, subst, sym, arith, length-append}
+use Rattle.std.proofs.Common.{◌≡◌, ℕ, ◌+◌, ◌<◌, ◌≤◌, ◌^◌, List, [], ◌++◌, length, ◌⊎◌, inl, inr, subst, sym, arith, length-append}
 use Rattle.std.specs.Prelude.{codes, decimal, slice_index_or}
 use Rattle.std.proofs.lemmas.Fmt.{length-decimal-le}
 use Rattle.flag_rules.specs.declared.flags.Cond.{Cond}
@@ -59,13 +59,13 @@ length-cond_text Nocarry = omega arith
 
 pub length-jump_text : (target : ℕ) (cond : Cond) → target < 2 ^ 64 → length (jump_text target cond) ≤ 64
 length-jump_text target cond h = omega (
-    arith,
-    length-decimal target h,
-    length-cond_text cond,
-    length-append (codes "goto " ++ decimal target ++ codes " if ") (cond_text cond),
-    length-append (codes "goto " ++ decimal target) (codes " if "),
-    length-append (codes "goto ") (decimal target),
-  )
+  arith,
+  length-decimal target h,
+  length-cond_text cond,
+  length-append (codes "goto " ++ decimal target ++ codes " if ") (cond_text cond),
+  length-append (codes "goto " ++ decimal target) (codes " if "),
+  length-append (codes "goto ") (decimal target),
+)
 
 -- of two texts that are the same
 short_like : {Long : Type 0} (text other : List ℕ) → text ≡ other → length other ≤ 64 → (length text ≤ 64) ⊎ Long

@@ -1,6 +1,5 @@
 ghost use Rattle.std.specs.Prelude.{◌≡◌, ℕ, ◌<◌, ◌≤◌, ◌^◌, ◌++◌, List, IsTrue, codes, length};
 ghost use Rattle.flag_rules.specs.Line.{then_number};
-ghost use Rattle.program_model.specs.declared.instr.Instr.{Instr};
 ghost use Rattle.program_text.specs.Names.{AreNames};
 ghost use Rattle.refutation_tree.specs.declared.evidence.Mark.{Mark};
 ghost use Rattle.refutation_tree.specs.declared.evidence.Outcome.{Outcome};
@@ -9,22 +8,28 @@ ghost use Rattle.answer_lines.specs.Lines.{IsMarkOf, IsVerdictOf, IsLine, IsOper
 
 use crate::MAX_PLAIN_LINE;
 
-/// A law: a line is that of one mark.
+/// A law: a line is that of at most one mark.
 pub fn one_mark()
     ensures { (instances : ℕ) (text : List ℕ) (one other : Mark) → instances < 2 ^ 8 →
         IsMarkOf instances text one → IsMarkOf instances text other → one ≡ other }
 {}
 
-/// A law: a line is the verdict of one outcome.
+/// A law: a line is the verdict of at most one outcome.
 pub fn one_verdict()
     ensures { (lines instances : ℕ) (text : List ℕ) (one other : Outcome) → lines < 2 ^ 8 → instances < 2 ^ 8 →
         IsVerdictOf lines instances text one → IsVerdictOf lines instances text other → one ≡ other }
 {}
 
-/// A law: after the same words a line says one number.
+/// A law: a line says at most one number after some words.
 pub fn one_number()
     ensures { (words : List ℕ) (one other : ℕ) → one < 2 ^ 64 → other < 2 ^ 64 →
         words ++ then_number one ≡ words ++ then_number other → one ≡ other }
+{}
+
+/// A law: a line says after how many steps at most one run ends, on one instance.
+pub fn one_ends()
+    ensures { (t u one other : ℕ) → t < 2 ^ 64 → u < 2 ^ 64 → one < 2 ^ 64 → other < 2 ^ 64 →
+        codes "ends" ++ then_number t ++ then_number one ≡ codes "ends" ++ then_number u ++ then_number other → (t ≡ u) × (one ≡ other) }
 {}
 
 /// A law: no line of a document has a line feed (10).

@@ -10,6 +10,8 @@ mod read_lines;
 mod room;
 
 pub use bytes::cut_before;
-pub use laws::{long_lines_are_operations, no_line_feed, one_mark, one_number, one_verdict};
+pub use laws::{
+    long_lines_are_operations, no_line_feed, one_ends, one_mark, one_number, one_verdict,
+};
 pub use read_lines::{ends_of, mark_of, number_after, verdict_of};
 pub use room::{MAX_PLAIN_LINE, line_room};

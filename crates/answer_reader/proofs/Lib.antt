@@ -13,7 +13,4 @@ pub mod Waiting
 pub mod Marks
 pub mod MarksOn
 pub mod Instrs
-pub mod Cutting
-pub mod ReadNumbers
-pub mod ReadLines
 pub mod Sections

@@ -19,7 +19,7 @@ use Rattle.answer_reader.specs.Inner.Following.{Place, at_form, at_pointers, at_
 use Rattle.std.specs.Prelude.{Result, Ok}
 use Rattle.program_text.specs.Names.{AreNames}
 use Rattle.answer_reader.specs.declared.refusal.AnswerRefusal.{AnswerRefusal}
-use Rattle.answer_reader.specs.Inner.LineFacts.{IsVerdictOf}
+use Rattle.answer_lines.specs.Lines.{IsVerdictOf}
 use Rattle.answer_reader.specs.Inner.Unread.{Unread}
 use Rattle.answer_reader.specs.Inner.ReadingOn.{TakesSuch, ReadsOn}
 use Rattle.answer_reader.proofs.Whole.{instr_next, ends_next}

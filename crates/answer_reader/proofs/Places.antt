@@ -25,7 +25,7 @@ use Rattle.flag_rules.specs.Line.{then_number}
 use Rattle.answer_writer.specs.Document.{verdict_line, mark_line, tree_lines, program_lines, ends_lines, document_lines}
 use Rattle.refutation_tree.specs.Grammar.{IsFromOneTo, IsInRange, child_programs, AreTrees, IsTree, last_size, HasProgram, FitsOutcome, IsGrammatical}
 use Rattle.answer_reader.specs.Inner.Following.{Place, at_form, at_pointers, at_lines, at_instances, at_verdict, at_tree, at_mark, at_program, at_instr, at_ends, at_end, at_rest, answer_of, past_trees, past_tree, past_marks, past_ends, past_instrs, IsHeading}
-use Rattle.answer_reader.specs.Inner.LineFacts.{NamesInstance}
+use Rattle.answer_lines.specs.Lines.{NamesInstance}
 
 -- ---- what is known
 

@@ -17,7 +17,7 @@ use Rattle.answer_reader.specs.declared.refusal.AnswerRefusal.{AnswerRefusal}
 use Rattle.answer_reader.specs.declared.refusal.AnswerRefusal.TheVariants.{Line, OutOfMemory}
 use Rattle.answer_writer.specs.Document.{document}
 use Rattle.answer_reader.specs.Reading.{IsDocument, Begins, IsAstray, Reads}
-use Rattle.answer_reader.specs.Inner.Cuts.{is_free_of}
+use Rattle.answer_lines.specs.Cuts.{is_free_of}
 use Rattle.answer_reader.specs.Inner.Unread.{Unread, TakesLine}
 use Rattle.answer_reader.specs.Inner.ReadingOn.{TakesSuch, StandsAt, ReadsOn}
 use Rattle.answer_reader.proofs.Places.{IsPlace}

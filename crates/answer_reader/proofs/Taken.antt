@@ -5,7 +5,7 @@ use Rattle.std.proofs.lemmas.Bool.{and_parts, false≢true}
 use Rattle.std.proofs.lemmas.List.Elements.{All-nil, All-cons}
 use Rattle.answer_reader.specs.declared.refusal.AnswerRefusal.{AnswerRefusal}
 use Rattle.answer_reader.specs.declared.refusal.AnswerRefusal.TheVariants.{Line}
-use Rattle.answer_reader.specs.Inner.Cuts.{is_free_of}
+use Rattle.answer_lines.specs.Cuts.{is_free_of}
 use Rattle.answer_reader.specs.Inner.Unread.{Unread, TakesLine}
 use Rattle.answer_reader.specs.Inner.ReadingOn.{TakesSuch}
 use Rattle.answer_reader.proofs.Told.{HasNoFeed}

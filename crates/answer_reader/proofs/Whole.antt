@@ -22,7 +22,7 @@ use Rattle.flag_rules.specs.Line.{then_number}
 use Rattle.answer_writer.specs.Document.{head_lines, verdict_line, mark_line, tree_lines, program_lines, ends_lines, document_lines}
 use Rattle.refutation_tree.specs.Grammar.{IsInRange, AreTrees, IsTree, last_size, FitsOutcome, IsGrammatical}
 use Rattle.answer_reader.specs.Inner.Following.{Place, at_form, at_pointers, at_lines, at_instances, at_verdict, at_tree, at_mark, at_program, at_instr, at_ends, at_end, at_rest, answer_of, past_trees, past_tree, past_marks, past_ends, past_instrs, MayMark, brought, MayBeTold, LeadOn}
-use Rattle.answer_reader.specs.Inner.LineFacts.{NamesInstance}
+use Rattle.answer_lines.specs.Lines.{NamesInstance}
 use Rattle.std.proofs.Common.{length-append}
 use Rattle.std.proofs.lemmas.Bool.{false≢true}
 use Rattle.std.proofs.lemmas.List.{length-map}

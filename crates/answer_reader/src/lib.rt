@@ -4,14 +4,11 @@
 //! first (what may follow at each place of a document).
 #![tactic(auto)]
 
-mod bytes;
 mod heading;
 mod laws;
 mod line_reader;
 mod next_lines;
-mod numbers;
 mod open_trees;
-mod read_lines;
 mod read_trees;
 mod reading;
 mod refusal;

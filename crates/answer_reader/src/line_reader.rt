@@ -1,9 +1,9 @@
 ghost use Rattle.std.specs.Prelude.{◌≡◌, ◌↔◌, [], IsTrue, IfOk, IfErr, OnErr};
-ghost use Rattle.answer_reader.specs.Inner.Cuts.{is_free_of};
+ghost use Rattle.answer_lines.specs.Cuts.{is_free_of};
 ghost use Rattle.answer_reader.specs.Inner.Unread.{TakesLine};
 
 use crate::AnswerRefusal;
-use crate::bytes::cut_before;
+use answer_lines::cut_before;
 use std::marker::Model;
 
 /// Reads a text line by line. Contracts see the bytes that are left, and the number of the line that they begin with.

@@ -5,12 +5,12 @@ ghost use Rattle.refutation_tree.specs.declared.evidence.Mark.{Mark};
 ghost use Rattle.flag_rules.specs.Line.{then_number};
 ghost use Rattle.refutation_tree.specs.Grammar.{IsFromOneTo};
 ghost use Rattle.answer_reader.specs.Inner.Following.{MayMark, IsMarkOn};
-ghost use Rattle.answer_reader.specs.Inner.LineFacts.{IsVerdictOf};
+ghost use Rattle.answer_lines.specs.Lines.{IsVerdictOf};
 ghost use Rattle.answer_reader.specs.Inner.ReadingOn.{TakesSuch};
 
 use crate::AnswerRefusal;
 use crate::line_reader::Reader;
-use crate::read_lines::{ends_of, mark_of, number_after, verdict_of};
+use answer_lines::{ends_of, mark_of, number_after, verdict_of};
 use program_model::{Instr, MAX_LINES, Partial};
 use program_text::{Names, read_instr};
 use refutation_tree::{MAX_STEPS, Mark, Outcome};

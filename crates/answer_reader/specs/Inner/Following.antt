@@ -16,7 +16,7 @@ use Rattle.refutation_tree.specs.declared.evidence.Answer.{Answer}
 use Rattle.flag_rules.specs.Line.{then_number}
 use Rattle.answer_writer.specs.Document.{verdict_line, mark_line}
 use Rattle.refutation_tree.specs.Grammar.{IsFromOneTo, IsInRange, child_programs, last_size}
-use Rattle.answer_reader.specs.Inner.LineFacts.{NamesInstance}
+use Rattle.answer_lines.specs.Lines.{NamesInstance}
 
 -- The places between the lines of a document, each with what was read before it: those of the heading, one after another;
 -- then where a tree, a mark of it, the program, an instruction of it, the end of a run, and the last line come; and the end.

@@ -3,7 +3,7 @@ use Rattle.std.specs.Prelude.{◌≡◌, ℕ, ◌+◌, IsTrue, List, ◌++◌, l
 use Rattle.flag_rules.specs.Line.{line, lines_of}
 use Rattle.answer_reader.specs.declared.refusal.AnswerRefusal.{AnswerRefusal}
 use Rattle.answer_reader.specs.declared.refusal.AnswerRefusal.TheVariants.{Line, OutOfMemory}
-use Rattle.answer_reader.specs.Inner.Cuts.{is_free_of}
+use Rattle.answer_lines.specs.Cuts.{is_free_of}
 use Rattle.answer_reader.specs.Inner.Unread.{Unread, TakesLine}
 use Rattle.answer_reader.specs.Reading.{IsAstray}
 use Rattle.answer_reader.specs.Inner.Following.{Place, at_form, LeadOn}

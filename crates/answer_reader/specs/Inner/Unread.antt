@@ -1,7 +1,7 @@
 -- What is left of a text of lines while it is read.
 use Rattle.std.specs.Prelude.{◌≡◌, ℕ, ◌+◌, IsTrue, List, ◌++◌}
 use Rattle.flag_rules.specs.Line.{line}
-use Rattle.answer_reader.specs.Inner.Cuts.{is_free_of}
+use Rattle.answer_lines.specs.Cuts.{is_free_of}
 
 -- the bytes that are left, and the number of the line that they begin with, from 1
 pub record Unread : Type 0 where

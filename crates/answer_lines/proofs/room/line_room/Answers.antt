@@ -1,4 +1,4 @@
-use Rattle.std.proofs.Common.{ℕ, arith}
+use Rattle.std.proofs.Common.{arith}
 use Rattle.answer_lines.proofs.Lengths.{line_fits}
 use Rattle.answer_lines.proofs.room.line_room.Goals as goal
 

@@ -1,6 +1,6 @@
 use Rattle.std.proofs.Common.{◌∙◌, sym, arith}
 use Rattle.std.proofs.lemmas.Bool.{false≢true}
-use Rattle.answer_reader.proofs.ReadLines.{none_said}
+use Rattle.answer_lines.proofs.ReadLines.{none_said}
 use Rattle.answer_reader.proofs.MarksOn.{mark_alone, none_marks}
 use Rattle.answer_reader.proofs.next_lines.mark_on.Goals as goal
 

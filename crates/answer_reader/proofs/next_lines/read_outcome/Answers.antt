@@ -1,4 +1,4 @@
-use Rattle.answer_reader.specs.Inner.LineFacts.{IsVerdictOf}
+use Rattle.answer_lines.specs.Lines.{IsVerdictOf}
 use Rattle.answer_reader.proofs.Taken.{no_line_left, told_by}
 use Rattle.answer_reader.proofs.next_lines.read_outcome.Goals as goal
 

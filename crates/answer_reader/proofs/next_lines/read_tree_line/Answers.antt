@@ -15,7 +15,7 @@ returns-else-eq c =
     let text = c.in_ok-line.line.now in
     let told = c.number_after.result in
     says_none {A = Unit {0}} (λ _ line. line ≡ codes "tree" ++ then_number size) c.args.reader.now c.next_line.new.self text c.number-number.result c.number-number.ensures c.in_ok-line.ensures.ok
-    (λ _ says. not_told (codes "tree") text MAX_LINES size told refl (omega arith) (c.requires.some, c.requires.few) c.number_after.ensures.some c.number_after.ensures.none
+    (λ _ says. not_told (codes "tree") text MAX_LINES size told (omega arith) (c.requires.some, c.requires.few) c.number_after.ensures.some c.number_after.ensures.none
     (λ same. true≢false (sym ((Decides-eqb size size).1 refl) ∙ ap (λ (o : Option ℕ). option_eq ◌==◌ o (Some size)) (sym same) ∙ sym c.eq.ensures ∙ c.if-eq.false)) says)
 
 pub returns-in_err-line : goal.returns-in_err-line

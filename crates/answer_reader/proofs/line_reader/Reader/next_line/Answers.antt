@@ -2,9 +2,9 @@ use Rattle.std.proofs.Common.{◌≡◌, ◌∙◌, ℕ, ◌+◌, List, [], ◌�
 use Rattle.std.proofs.lemmas.Bool.Decides.{Decides-eqb}
 use Rattle.std.proofs.lemmas.List.{append-nil}
 use Rattle.std.proofs.lemmas.Slice.Eq.{strip_prefix_is}
-use Rattle.answer_reader.specs.Inner.Cuts.{is_free_of}
+use Rattle.answer_lines.specs.Cuts.{is_free_of}
 use Rattle.answer_reader.specs.Inner.Unread.{Unread}
-use Rattle.answer_reader.proofs.Cutting.{nothing_left}
+use Rattle.answer_lines.proofs.Cutting.{nothing_left}
 use Rattle.answer_reader.proofs.line_reader.Reader.next_line.Goals as goal
 
 pub returns-in_default-clause-none : goal.returns-in_default-clause-none
