@@ -2,3 +2,4 @@ pub mod Whole
 pub mod Steps
 pub mod Instrs
 pub mod Stages
+pub mod Told

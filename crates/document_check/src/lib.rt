@@ -1,6 +1,6 @@
 //! Documents of answers, checked as they are read.
 #![tactic(auto)]
 
-mod numbers;
 mod progress;
+mod said;
 mod stage;

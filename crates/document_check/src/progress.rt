@@ -1,13 +1,15 @@
-ghost use Rattle.std.specs.Prelude.{◌≡◌, ℕ, ◌+◌, ◌∷◌, List as Sequence, length, take, IfOk, IsTrue, ◌↔◌};
+ghost use Rattle.std.specs.Prelude.{◌≡◌, ℕ, ◌+◌, ◌≤◌, ◌∷◌, List as Sequence, length, take, IfOk, IsTrue, ◌↔◌};
 ghost use Rattle.program_model.specs.Semantics.{Semantics};
+ghost use Rattle.program_model.specs.Program.{IsPartial};
+ghost use Rattle.program_text.specs.Names.{AreNames};
 ghost use Rattle.refutation_tree.specs.Grammar.{IsFromOneTo, last_size};
 ghost use Rattle.refutation_check.specs.Walking.{IsWalk, pending};
 ghost use Rattle.document_check.specs.Remaining.{LastLine, EndsToCome, InstrsToCome, ProgramToCome, TreesToCome, MarksToCome, HeadingToCome};
-ghost use Rattle.document_check.specs.Standing.{FitsStage, IsProgress, IsReadTo, IsTreeSize};
+ghost use Rattle.document_check.specs.Standing.{Expects, FitsStage, IsProgress, IsReadTo, IsTreeSize};
 ghost use Rattle.document_check.specs.Inner.Steps.{Remains, Steps};
 ghost use Rattle.document_check.specs.declared.stage.Stage.TheVariants as stages;
 
-use crate::numbers::says_number;
+use crate::said::{says, says_number};
 use crate::stage::Stage;
 use answer_lines::verdict_of;
 use flag_rules::OutOfMemory;
@@ -73,12 +75,32 @@ impl<C: Drop> Progress<C> {
         line: &[u8],
         meter: &mut M::Meter,
     )
+        requires are_names { AreNames names.now }
         requires names { length names.now ≡ (M.semantics machine.now).ops }
         requires progress { IsProgress (M.semantics machine.now) (M.belongs machine.now) lines self.old }
         ensures progress { IsProgress (M.semantics machine.now) (M.belongs machine.now) lines self.new }
         ensures steps { Steps (M.semantics machine.now) names.now lines self.old line.now self.new }
     {
-        let next = match self.stage {
+        self.stage = self.after(machine, names, lines, line, meter);
+    }
+
+    // What comes after a line of the document.
+    fn after<M: Machine<Cfg = C>>(
+        &mut self,
+        machine: &M,
+        names: &Names,
+        lines: u8,
+        line: &[u8],
+        meter: &mut M::Meter,
+    ) -> Stage
+        requires are_names { AreNames names.now }
+        requires names { length names.now ≡ (M.semantics machine.now).ops }
+        requires progress { IsProgress (M.semantics machine.now) (M.belongs machine.now) lines self.old }
+        ensures walk { IsWalk (M.semantics machine.now) (M.belongs machine.now) self.new.walk }
+        ensures remains { let m = M.semantics machine.now in Remains m names.now lines
+            self.new.walk self.new.program (λ more. Expects m names.now lines self.old (line.now ∷ more)) result }
+    {
+        match self.stage {
             Stage::Form => self.after_form(line),
             Stage::Pointers => self.after_pointers(machine, line),
             Stage::Lines => self.after_lines(lines, line),
@@ -93,8 +115,7 @@ impl<C: Drop> Progress<C> {
             Stage::Ends { t } => self.after_ends(machine, t, line, meter),
             Stage::End => self.after_end(line),
             Stage::Nothing | Stage::Rejected => Stage::Rejected,
-        };
-        self.stage = next;
+        }
     }
 
     // What comes after the line that tells the form.
@@ -102,7 +123,7 @@ impl<C: Drop> Progress<C> {
         ensures { (m : Semantics C) (texts : Sequence (Sequence ℕ)) (lines : ℕ) →
             Remains m texts lines self.now.walk self.now.program (λ more. HeadingToCome m texts lines 0 (line.now ∷ more)) result }
     {
-        if line == b"bfgp answer 1".as_slice() {
+        if says(line, b"bfgp answer 1") {
             Stage::Pointers
         } else {
             Stage::Rejected
@@ -173,10 +194,11 @@ impl<C: Drop> Progress<C> {
             self.new.walk self.new.program (λ more. TreesToCome (M.semantics machine.now) texts lines outcome size (line.now ∷ more)) result }
     {
         let next = size + 1;
+        let covering = says_refuted(outcome, next);
         if !says_number(line, b"tree", MAX_LINES, next) {
             return Stage::Rejected;
         }
-        self.walk.begin(machine, next, says_refuted(outcome, next));
+        self.walk.begin(machine, next, covering);
         Stage::Mark {
             outcome,
             size: next,
@@ -229,7 +251,7 @@ impl<C: Drop> Progress<C> {
         ensures remains { (texts : Sequence (Sequence ℕ)) (lines : ℕ) → Remains (M.semantics machine.now) texts lines
             self.new.walk self.new.program (λ more. ProgramToCome (M.semantics machine.now) texts size (line.now ∷ more)) result }
     {
-        if line != b"program".as_slice() {
+        if !says(line, b"program") {
             return Stage::Rejected;
         }
         self.program = Partial::empty(size);
@@ -244,6 +266,7 @@ impl<C: Drop> Progress<C> {
         place: u8,
         line: &[u8],
     ) -> Stage
+        requires are_names { AreNames names.now }
         requires names { length names.now ≡ (M.semantics machine.now).ops }
         requires fits { IsReadTo (M.semantics machine.now).ops self.old.program place }
         ensures walk { self.new.walk ≡ self.old.walk }
@@ -268,10 +291,24 @@ impl<C: Drop> Progress<C> {
         ensures { (texts : Sequence (Sequence ℕ)) (lines : ℕ) → Remains (M.semantics machine.now) texts lines
             self.now.walk self.now.program (λ more. InstrsToCome (M.semantics machine.now) texts (length self.now.program) (take place self.now.program) (line.now ∷ more)) result }
     {
-        if line == b"end".as_slice() {
-            Stage::Ends { t: 0 }
+        if says(line, b"end") {
+            self.before_ends(machine, 0)
         } else {
             Stage::Rejected
+        }
+    }
+
+    // What comes where the ends of the runs of the program on the instances from one on are to come.
+    fn before_ends<M: Machine<Cfg = C>>(&self, machine: &M, t: u8) -> Stage
+        requires partial { IsPartial (M.semantics machine.now).ops self.now.program }
+        requires instances { t ≤ (M.semantics machine.now).instances }
+        ensures { (texts : Sequence (Sequence ℕ)) (lines : ℕ) → Remains (M.semantics machine.now) texts lines
+            self.now.walk self.now.program (λ more. EndsToCome (M.semantics machine.now) self.now.program t more) result }
+    {
+        if t < machine.instances() {
+            Stage::Ends { t }
+        } else {
+            Stage::End
         }
     }
 
@@ -297,7 +334,7 @@ impl<C: Drop> Progress<C> {
         ensures { (m : Semantics C) (texts : Sequence (Sequence ℕ)) (lines : ℕ) →
             Remains m texts lines self.now.walk self.now.program (λ more. LastLine (line.now ∷ more)) result }
     {
-        if line == b"end of answer".as_slice() {
+        if says(line, b"end of answer") {
             Stage::Nothing
         } else {
             Stage::Rejected
