@@ -5,3 +5,4 @@ pub mod Worded
 pub mod OneReading
 pub mod NoFeed
 pub mod Lengths
+pub mod Documents

@@ -1,8 +1,11 @@
-ghost use Rattle.std.specs.Prelude.{◌≡◌, ℕ, ◌<◌, ◌≤◌, ◌^◌, ◌++◌, List, IsTrue, codes, length};
+ghost use Rattle.std.specs.Prelude.{◌≡◌, ℕ, ◌<◌, ◌≤◌, ◌^◌, ◌++◌, List, IsTrue, All, codes, length};
 ghost use Rattle.flag_rules.specs.Line.{then_number};
 ghost use Rattle.program_text.specs.Names.{AreNames};
 ghost use Rattle.refutation_tree.specs.declared.evidence.Mark.{Mark};
 ghost use Rattle.refutation_tree.specs.declared.evidence.Outcome.{Outcome};
+ghost use Rattle.refutation_tree.specs.declared.evidence.Answer.{Answer};
+ghost use Rattle.refutation_tree.specs.Grammar.{IsGrammatical};
+ghost use Rattle.answer_writer.specs.Document.{document_lines};
 ghost use Rattle.answer_lines.specs.Cuts.{is_free_of};
 ghost use Rattle.answer_lines.specs.Lines.{IsMarkOf, IsVerdictOf, IsLine, IsOperationLine};
 
@@ -30,6 +33,11 @@ pub fn one_number()
 pub fn one_ends()
     ensures { (t u one other : ℕ) → t < 2 ^ 64 → u < 2 ^ 64 → one < 2 ^ 64 → other < 2 ^ 64 →
         codes "ends" ++ then_number t ++ then_number one ≡ codes "ends" ++ then_number u ++ then_number other → (t ≡ u) × (one ≡ other) }
+{}
+
+/// A law: each line of a document is one that `IsLine` lists.
+pub fn documents_are_of_lines()
+    ensures { (texts : List (List ℕ)) (answer : Answer) → IsGrammatical (length texts) answer → All (IsLine texts) (document_lines texts answer) }
 {}
 
 /// A law: no line of a document has a line feed (10).

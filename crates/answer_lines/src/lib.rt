@@ -11,7 +11,8 @@ mod room;
 
 pub use bytes::cut_before;
 pub use laws::{
-    long_lines_are_operations, no_line_feed, one_ends, one_mark, one_number, one_verdict,
+    documents_are_of_lines, long_lines_are_operations, no_line_feed, one_ends, one_mark,
+    one_number, one_verdict,
 };
 pub use read_lines::{ends_of, mark_of, number_after, verdict_of};
 pub use room::{MAX_PLAIN_LINE, line_room};
