@@ -1,5 +1,5 @@
 -- What came of a file so far.
-use Rattle.std.proofs.Common.{◌≡◌, ℕ, ◌+◌, ◌≤◌, List, [], ◌++◌, length, take, drop, Option, None, Some, Ok, refl, sym, ◌∙◌, ap, subst, append_assoc, append-nil, arith}
+use Rattle.std.proofs.Common.{◌≡◌, ℕ, ◌+◌, ◌≤◌, List, [], ◌++◌, length, take, drop, Option, None, Some, Ok, sym, ◌∙◌, ap, subst, append_assoc, length-append, length-take-le, arith}
 use Rattle.std.proofs.lemmas.List.{take-append-drop}
 use Rattle.std.proofs.Math.Seq.{drop-append_seam}
 use Rattle.bfgp_outside.specs.Shelf.{Files, Told, ReadsHeld, GivesBytes}
@@ -16,24 +16,6 @@ pub record TookFront {T : Type 0} (stands_for : T → List ℕ → Type 0) (old 
   pub took : Took stands_for old new bytes
   pub reaches : place ≡ length bytes
   pub front : Told told name (IsFrontOf bytes)
-
--- ---- what was taken
-
-took_none : {T : Type 0} (stands_for : T → List ℕ → Type 0) (taker : T) → Took stands_for taker taker []
-took_none stands_for taker front stands = subst (stands_for taker) (sym (append-nil front)) stands
-
-took_then : {T : Type 0} (stands_for : T → List ℕ → Type 0) (a b c : T) (bytes more : List ℕ) → Took stands_for a b bytes → Took stands_for b c more → Took stands_for a c (bytes ++ more)
-took_then stands_for a b c bytes more first next front stands = subst (stands_for c) (append_assoc front bytes more) (next (front ++ bytes) (first front stands))
-
--- ---- what was read
-
-nothing_read : (held : Option (List ℕ)) → IsFrontOf [] held
-nothing_read None = refl
-nothing_read (Some bytes) = (bytes, refl)
-
-front_none : (told : Option Files) (name : List ℕ) → Told told name (IsFrontOf [])
-front_none None name = tt
-front_none (Some files) name = nothing_read (files name)
 
 given : (read rest into bytes : List ℕ) (count : ℕ) → read ++ rest ≡ bytes → GivesBytes bytes (length read) count into → (read ++ take count into) ++ drop count rest ≡ bytes
 given read rest into bytes count split gives =
@@ -53,3 +35,12 @@ front_more None now name read into place count kept at front gives = tt
 front_more (Some files) now name read into place count kept at front gives =
     let here : ReadsHeld (files name) place (Ok count) into = subst (λ (t : Option Files). Told t name (λ held. ReadsHeld held place (Ok count) into)) kept gives in
     more_read (files name) read into count front (subst (λ (n : ℕ). ReadsHeld (files name) n (Ok count) into) at here)
+
+-- one piece more came
+pub front_then : {T : Type 0} (stands_for : T → List ℕ → Type 0) (a b c : T) (told now : Option Files) (name into : List ℕ) (place count : ℕ) → now ≡ told → TookFront stands_for a b told name place → Told now name (λ held. ReadsHeld held place (Ok count) into) → Took stands_for b c (take count into) → count ≤ length into → TookFront stands_for a c told name (place + count)
+front_then stands_for a b c told now name into place count kept came gives took fits = record {
+  bytes = came.bytes ++ take count into;
+  took = λ front stands. subst (stands_for c) (append_assoc front came.bytes (take count into)) (took (front ++ came.bytes) (came.took front stands));
+  reaches = omega (arith, came.reaches, length-append came.bytes (take count into), length-take-le count into fits);
+  front = front_more told now name came.bytes into place count kept came.reaches came.front gives;
+}

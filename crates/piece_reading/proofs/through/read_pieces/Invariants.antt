@@ -3,8 +3,8 @@ use Rattle.bfgp_outside.specs.Shelf.{CountsFaults, GoesOn, Asks}
 use Rattle.piece_reading.proofs.Front.{TookFront}
 use Rattle.piece_reading.proofs.through.read_pieces.Given as goal
 
-abbrev pub invariant-loop-shelf : goal.invariant-loop-shelf
-invariant-loop-shelf g l = record {
+abbrev pub invariant-loop-count : goal.invariant-loop-count
+invariant-loop-count g l = record {
   room : 0 < length l.piece;
   within : l.place ≤ l.limit;
   came : TookFront g.T.Taker.stands_for l.fn.taker l.taker (g.S.Shelf.files l.fn.shelf) l.name l.place;
@@ -13,5 +13,5 @@ invariant-loop-shelf g l = record {
   asks : Asks (g.S.Shelf.asked l.fn.shelf) (g.S.Shelf.asked l.shelf) l.name;
 }
 
-abbrev pub decreases-loop-shelf : goal.decreases-loop-shelf
-decreases-loop-shelf g l = l.limit - l.place
+abbrev pub decreases-loop-count : goal.decreases-loop-count
+decreases-loop-count g l = l.limit - l.place
