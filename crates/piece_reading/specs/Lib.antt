@@ -1,0 +1,2 @@
+pub mod Taker
+pub mod Through
