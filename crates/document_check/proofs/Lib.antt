@@ -3,3 +3,5 @@ pub mod Steps
 pub mod Instrs
 pub mod Stages
 pub mod Told
+pub mod Completing
+pub mod Starting

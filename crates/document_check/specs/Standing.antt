@@ -4,6 +4,7 @@ use Rattle.flag_rules.specs.Line.{lines_of}
 use Rattle.program_model.specs.Semantics.{Semantics}
 use Rattle.program_model.specs.Program.{Program, IsPartial, empty, line_at}
 use Rattle.program_model.specs.declared.alphabet.TheConstants.{MAX_LINES}
+use Rattle.program_text.specs.Names.{AreNames}
 use Rattle.refutation_tree.specs.Grammar.{IsFromOneTo, last_size}
 use Rattle.answer_lines.specs.Cuts.{is_free_of}
 use Rattle.refutation_check.specs.Walking.{IsWalk, pending}
@@ -11,6 +12,9 @@ use Rattle.refutation_check.specs.declared.walk.Walk.{Walk}
 use Rattle.document_check.specs.declared.stage.Stage.{Stage}
 use Rattle.document_check.specs.declared.stage.Stage.TheVariants as stages
 use Rattle.document_check.specs.declared.progress.Progress.{Progress}
+use Rattle.document_check.specs.declared.reading.Reading.{Reading}
+use Rattle.document_check.specs.Documents.{IsAcceptedDocument}
+use Rattle.document_check.specs.Fronts.{LineFront}
 use Rattle.document_check.specs.Remaining.{LastLine, EndsToCome, InstrsToCome, ProgramToCome, TreesToCome, MarksToCome, HeadingToCome}
 
 -- what is still to come of an accepted document where such a line comes next
@@ -67,3 +71,27 @@ FitsStage m lines walk program stages.Rejected = Unit {0}
 pub record IsProgress {C : Type 0} (m : Semantics C) (belongs : ℕ → C → Type 0) (lines : ℕ) (progress : Progress C) : Type 0 where
   pub walk : IsWalk m belongs progress.walk
   pub stage : FitsStage m lines progress.walk progress.program progress.stage
+
+-- a line of a document that a checker may keep: no line feed (10) is in it, and it has room
+pub record FitsRoom (room : ℕ) (text : List ℕ) : Type 0 where
+  pub free : IsTrue (is_free_of 10 text)
+  pub short : length text ≤ room
+
+-- after the front of a line that came, these bytes are the rest of an accepted document
+pub record Completes {C : Type 0} (m : Semantics C) (texts : List (List ℕ)) (reading : Reading C) (more : List ℕ) : Type 0 where
+  pub rest : List (List ℕ)
+  pub whole : reading.front.bytes ++ more ≡ lines_of rest
+  pub each : All (FitsRoom reading.front.room) rest
+  pub expected : Expects m texts reading.lines reading.progress rest
+
+-- a reading over the partial programs of a machine and these names
+pub record IsReading {C : Type 0} (m : Semantics C) (belongs : ℕ → C → Type 0) (texts : List (List ℕ)) (reading : Reading C) : Type 0 where
+  pub names : AreNames texts
+  pub progress : IsProgress m belongs reading.lines reading.progress
+  pub free : IsTrue (is_free_of 10 reading.front.bytes)
+
+-- A reading stands for the bytes that were taken: whatever follows them, the whole is an accepted document exactly where the reading
+-- is completed so.
+pub record StandsFor {C : Type 0} (m : Semantics C) (belongs : ℕ → C → Type 0) (texts : List (List ℕ)) (reading : Reading C) (bytes : List ℕ) : Type 0 where
+  pub is_reading : IsReading m belongs texts reading
+  pub exactly : (more : List ℕ) → IsAcceptedDocument m texts reading.lines (bytes ++ more) ↔ Completes m texts reading more
