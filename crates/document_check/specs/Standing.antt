@@ -90,8 +90,19 @@ pub record IsReading {C : Type 0} (m : Semantics C) (belongs : ℕ → C → Typ
   pub progress : IsProgress m belongs reading.lines reading.progress
   pub free : IsTrue (is_free_of 10 reading.front.bytes)
 
--- A reading stands for the bytes that were taken: whatever follows them, the whole is an accepted document exactly where the reading
--- is completed so.
-pub record StandsFor {C : Type 0} (m : Semantics C) (belongs : ℕ → C → Type 0) (texts : List (List ℕ)) (reading : Reading C) (bytes : List ℕ) : Type 0 where
-  pub is_reading : IsReading m belongs texts reading
-  pub exactly : (more : List ℕ) → IsAcceptedDocument m texts reading.lines (bytes ++ more) ↔ Completes m texts reading more
+-- what a checker has: a machine, the texts of its operations, and how far a document was read
+pub record Checking (M C : Type 0) : Type 0 where
+  pub machine : M
+  pub texts : List (List ℕ)
+  pub reading : Reading C
+
+-- A checker of a machine that means this stands for the bytes that it took: whatever follows them, the whole is an accepted document
+-- exactly where that completes what was read.
+abbrev pub StandsFor : {M C : Type 0} → Semantics C → Checking M C → List ℕ → Type 0
+StandsFor m checker bytes = (more : List ℕ) → IsAcceptedDocument m checker.texts checker.reading.lines (bytes ++ more) ↔ Completes m checker.texts checker.reading more
+
+-- the machine, the texts and the lines that were asked for are the same
+pub record KeepsAsked {M C : Type 0} (old new : Checking M C) : Type 0 where
+  pub machine : new.machine ≡ old.machine
+  pub texts : new.texts ≡ old.texts
+  pub lines : new.reading.lines ≡ old.reading.lines

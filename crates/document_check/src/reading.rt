@@ -3,7 +3,7 @@ ghost use Rattle.program_model.specs.Semantics.{Semantics};
 ghost use Rattle.flag_rules.specs.Line.{line};
 ghost use Rattle.answer_lines.specs.Cuts.{is_free_of};
 ghost use Rattle.document_check.specs.Documents.{IsAcceptedDocument};
-ghost use Rattle.document_check.specs.Standing.{IsReading, StandsFor};
+ghost use Rattle.document_check.specs.Standing.{Completes, IsReading};
 ghost use Rattle.document_check.specs.Inner.Pieces.{GoesOn};
 
 use crate::front::Front;
@@ -42,7 +42,9 @@ impl<C: Drop> Reading<C> {
     ) -> Result<Reading<C>, OutOfMemory>
         requires { length names.now ≡ (M.semantics machine.now).ops }
         ensures lines { IfOk result (λ reading. reading.lines ≡ lines) }
-        ensures stands { IfOk result (λ reading. StandsFor (M.semantics machine.now) (M.belongs machine.now) names.now reading []) }
+        ensures reading { IfOk result (λ reading. IsReading (M.semantics machine.now) (M.belongs machine.now) names.now reading) }
+        ensures stands { let m = M.semantics machine.now in IfOk result
+            (λ reading. (more : Sequence ℕ) → IsAcceptedDocument m names.now lines more ↔ Completes m names.now reading more) }
     {
         let _pointers = machine.pointers();
         let _instances = machine.instances();
@@ -118,10 +120,10 @@ impl<C: Drop> Reading<C> {
         }
     }
 
-    /// Whether what was taken is the document of an accepted answer.
-    pub(crate) fn is_accepted<M: Machine<Cfg = C>>(&self, machine: &M, names: &Names) -> bool
-        ensures { (bytes : Sequence ℕ) → StandsFor (M.semantics machine.now) (M.belongs machine.now) names.now self.now bytes →
-            IsTrue result ↔ IsAcceptedDocument (M.semantics machine.now) names.now self.now.lines bytes }
+    /// Whether nothing more has to come.
+    pub(crate) fn is_complete(&self) -> bool
+        ensures { (m : Semantics C) (texts : Sequence (Sequence ℕ)) → IsTrue (is_free_of 10 self.now.front.bytes) →
+            IsTrue result ↔ Completes m texts self.now [] }
     {
         self.progress.is_whole() && self.front.is_empty()
     }
