@@ -11,7 +11,7 @@ ghost use Rattle.document_check.specs.declared.stage.Stage.TheVariants as stages
 
 use crate::said::{says, says_number};
 use crate::stage::Stage;
-use answer_lines::verdict_of;
+use answer_lines::{ends_of, mark_of, verdict_of};
 use flag_rules::OutOfMemory;
 use program_model::{MAX_INSTANCES, MAX_LINES, MAX_POINTERS, Machine, Partial};
 use program_text::{Names, read_instr};
@@ -221,7 +221,16 @@ impl<C: Drop> Progress<C> {
         ensures remains { (texts : Sequence (Sequence ℕ)) → let m = M.semantics machine.now in Remains m texts lines
             self.new.walk self.new.program (λ more. MarksToCome m texts lines outcome size self.old.walk.covering (pending m self.old.walk) (line.now ∷ more)) result }
     {
-        Stage::Rejected
+        let Some(mark) = mark_of(line, machine.instances()) else {
+            return Stage::Rejected;
+        };
+        if !self.walk.take(machine, mark, meter) {
+            return Stage::Rejected;
+        }
+        if !self.walk.is_done(machine) {
+            return Stage::Mark { outcome, size };
+        }
+        self.after_last_mark(lines, outcome, size)
     }
 
     // What comes after the last mark of the tree of a size.
@@ -326,7 +335,13 @@ impl<C: Drop> Progress<C> {
         ensures remains { (texts : Sequence (Sequence ℕ)) (lines : ℕ) → Remains (M.semantics machine.now) texts lines
             self.new.walk self.new.program (λ more. EndsToCome (M.semantics machine.now) self.old.program t (line.now ∷ more)) result }
     {
-        Stage::Rejected
+        let Some(steps) = ends_of(line, t) else {
+            return Stage::Rejected;
+        };
+        if !self.walk.ends(machine, &self.program, t, steps, meter) {
+            return Stage::Rejected;
+        }
+        self.before_ends(machine, t + 1)
     }
 
     // What comes after the last line.

@@ -1,5 +1,10 @@
+pub mod Places
 pub mod Stepping
+pub mod Instances
 pub mod Waiting
+pub mod Narrowing
+pub mod Walks
+pub mod Short
 pub mod Marks
 pub mod Lines
 pub mod Parts

@@ -13,8 +13,7 @@ use Rattle.refutation_tree.specs.declared.evidence.Tree.{Tree}
 use Rattle.refutation_tree.specs.Covers.{Skips, Child, children, Covers}
 use Rattle.refutation_tree.specs.Grammar.{IsInRange, child_programs, AreTrees}
 use Rattle.pointer_symmetry.specs.Twins.{twins}
-use Rattle.refutation_check.specs.Walking.{Stands, AllStand, brought, rooted}
-use Rattle.refutation_check.specs.Inner.Judging.{Holds}
+use Rattle.refutation_check.specs.Walking.{Stands, AllStand, Holds, brought, rooted}
 
 -- the programs of the children
 abbrev programs : List Child → List Program
@@ -131,6 +130,16 @@ no_mark_left m covering cs items index past on =
       λ a. (none_left m covering cs).1 (subst (AllStand m covering cs) none (on.0 a)),
       λ e. on.1 (subst (AllStand m covering cs) (sym none) ((none_left m covering cs).0 e)),
     )
+
+-- a mark that is no split brings no program
+pub brings_nothing : {C : Type 0} (m : Semantics C) (q : Program) (mark : Mark) → ((line stamp : ℕ) → mark ≡ marks.Split line stamp → ⊥) → brought m q mark ≡ []
+brings_nothing m q (marks.Split line stamp) none = absurd (none line stamp refl)
+brings_nothing m q (marks.Unmet t j) none = refl
+brings_nothing m q (marks.Loops t i j) none = refl
+brings_nothing m q marks.Twin none = refl
+brings_nothing m q marks.Waiting none = refl
+brings_nothing m q marks.Solved none = refl
+brings_nothing m q (marks.AtLimit t) none = refl
 
 -- a mark that stands for the next program is taken, and what it brings comes next
 pub mark_stood : {C : Type 0} (m : Semantics C) (covering after : Bool) (cs rest : List Child) (c : Child) (mark : Mark) (ms : List Mark) → cs ≡ c ∷ drop 1 cs → Stands m covering c mark → after ≡ covering → rest ≡ brought m c.program mark ++ drop 1 cs

@@ -1,26 +1,26 @@
 -- Programs that wait for a mark: those of the family that was split last come first.
-use Rattle.std.proofs.Common.{◌≡◌, ℕ, ◌+◌, ◌-◌, ◌<◌, ◌≤◌, Bool, false, List, [], ◌∷◌, ◌++◌, length, take, drop, set, get_or, refl, sym, ◌∙◌, ap, arith, append_assoc, subst, nat_lt}
-use Rattle.std.specs.Prelude.{◌↔◌, All, IsTrue, Option, Some, None, slice_get, option_map}
+use Rattle.std.proofs.Common.{◌≡◌, ℕ, ◌+◌, ◌-◌, ◌<◌, ◌≤◌, Bool, false, List, [], ◌∷◌, ◌++◌, length, take, drop, set, get_or, refl, sym, ◌∙◌, ap, arith, append_assoc, subst}
+use Rattle.std.specs.Prelude.{All, Option, Some, None, slice_get, option_map}
 use Rattle.std.proofs.lemmas.List.{drop_all, length-map}
 use Rattle.std.proofs.lemmas.Option.{slice_get-map, slice_get-get_or, slice_get_within, get_or_from_slice_get, none-some, same_Some}
 use Rattle.program_model.specs.declared.instr.Instr.{Instr}
 use Rattle.program_model.specs.Alphabet.{alphabet}
+use Rattle.program_model.specs.declared.alphabet.TheConstants.{MAX_LINES}
 use Rattle.program_model.specs.Semantics.{Semantics}
 use Rattle.program_model.specs.declared.instr.Instr.TheVariants.{Op, End}
 use Rattle.program_model.specs.Program.{Program, with_line, IsOpen, IsPartial, IsInstr, Extends}
 use Rattle.program_model.proofs.Alphabets.{contains_op}
 use Rattle.program_model.proofs.Places.{contains_at}
 use Rattle.program_model.proofs.Programs.{extends_with_line, open_is_not_last, partial_with_line}
-use Rattle.std.proofs.lemmas.Bool.Decides.{nat_tests}
-use Rattle.refutation_check.specs.Inner.Runs.{IsTrack}
-use Rattle.std.proofs.lemmas.List.Elements.{All-nil}
+use Rattle.refutation_check.specs.Inner.Runs.{AllStandAt}
 use Rattle.refutation_check.specs.declared.family.Family.{Family}
 use Rattle.refutation_tree.specs.Covers.{Skips, Child, children}
 use Rattle.refutation_tree.specs.Grammar.{child_programs}
 use Rattle.refutation_tree.proofs.Children.{count_children, child_at, some_children, left_from, one_more, without_first, with_same, without_empty}
 use Rattle.pointer_symmetry.specs.Used.{AreUsed}
 use Rattle.pointer_symmetry.specs.Twins.{twins}
-use Rattle.refutation_check.specs.Walking.{waiting, waiting_in, IsOpenFamily, rooted, skips_first}
+use Rattle.refutation_check.specs.Walking.{waiting, waiting_in, IsOpenFamily, rooted}
+use Rattle.refutation_check.specs.Inner.Walking.{skips_first}
 
 -- ---- children, and whether they are passed over
 
@@ -68,12 +68,6 @@ taken m last families family after child size here next = without_first (waiting
 
 -- ---- the child of a family's rank
 
-below_tested : (n count other : ℕ) → count ≡ other → IsTrue (nat_lt n count) → n < other
-below_tested n count other same h = grind (arith, nat_tests)
-
-tested_below : (n count other : ℕ) → count ≡ other → n < other → IsTrue (nat_lt n count)
-tested_below n count other same h = grind (arith, nat_tests)
-
 module _ {C : Type 0} (m : Semantics C) (belongs : ℕ → C → Type 0) (family : Family C) (h : IsOpenFamily m belongs family) (ops lines : ℕ) (same_ops : ops ≡ m.ops) (count : lines ≡ length family.parent) where
   -- the line and the rank are there
   pub line_within : family.line < lines
@@ -85,12 +79,6 @@ module _ {C : Type 0} (m : Semantics C) (belongs : ℕ → C → Type 0) (family
   -- the instruction of the rank
   pub instr_of_rank : (instr : Instr) → slice_get (alphabet ops lines family.line) family.rank ≡ Some instr → slice_get (alphabet m.ops (length family.parent) family.line) family.rank ≡ Some instr
   instr_of_rank instr ranked = rw (← same_ops, ← count) ranked
-
-  -- a rank is tested by how many instructions there are
-  pub rank_tested : (rank children : ℕ) → children ≡ length (alphabet ops lines family.line) → IsTrue (nat_lt rank children) ↔ (rank < length (child_programs m.ops family.parent family.line))
-  rank_tested rank children size =
-      let same : children ≡ length (child_programs m.ops family.parent family.line) = size ∙ ap (λ (n : ℕ). length (alphabet n lines family.line)) same_ops ∙ ap (λ (n : ℕ). length (alphabet m.ops n family.line)) count ∙ sym (count_children m.ops family.parent family.line) in
-      (below_tested rank children (length (child_programs m.ops family.parent family.line)) same, tested_below rank children (length (child_programs m.ops family.parent family.line)) same)
 
 module _ {C : Type 0} (m : Semantics C) (belongs : ℕ → C → Type 0) (family : Family C) (h : IsOpenFamily m belongs family) (instr : Instr) (ranked : slice_get (alphabet m.ops (length family.parent) family.line) family.rank ≡ Some instr) where
   fits : IsInstr m.ops (length family.parent) family.line instr
@@ -134,7 +122,7 @@ pub next_is_child : {C : Type 0} (m : Semantics C) (families : List (Family C)) 
 next_is_child {C} m families others family child last here =
     let within = slice_get_within families (length families - 1) family last in
     let size : length families ≡ (length families - 1) + 1 = omega arith in
-    let after : Family C = record { parent = family.parent; line = family.line; rank = family.rank + 1; used = family.used; tracks = family.tracks } in
+    let after : Family C = record { parent = family.parent; line = family.line; rank = family.rank + 1; children = family.children; used = family.used; runs = family.runs } in
     let with = child_with (twins m) m.ops family.parent family.line family.rank child here in
     let next : IsAfter m family after (record { program = child; skipped = with.0 }) = record { here = with.1; parent = refl; line = refl; rank = refl } in
     let all = taken m (length families - 1) families family after _ size (get_or_from_slice_get families (length families - 1) family family last) next in
@@ -149,7 +137,7 @@ skips_as_last {C} m belongs families others family last each =
     let h : IsOpenFamily m belongs family = subst (IsOpenFamily m belongs) there (each (length families - 1) family within) in
     let size : length families ≡ (length families - 1) + 1 = omega arith in
     let kids = children (twins m) m.ops family.parent family.line in
-    let after : Family C = record { parent = family.parent; line = family.line; rank = family.rank + 1; used = family.used; tracks = family.tracks } in
+    let after : Family C = record { parent = family.parent; line = family.line; rank = family.rank + 1; children = family.children; used = family.used; runs = family.runs } in
     let left = h.left in
     let child = get_or kids family.rank (record { program = family.parent; skipped = false }) in
     let here = slice_get-get_or kids family.rank (record { program = family.parent; skipped = false }) (omega (arith, left, as_many (twins m) m.ops family.parent family.line)) in
@@ -177,7 +165,8 @@ next_was_last {C} m last families rest others family after size here left parent
     ∙ ap (λ (l : List Child). l ++ others) (sym (without_empty (waiting m) last families after size (drop_all after.rank (children (twins m) m.ops after.parent after.line) none)))
     ∙ next_is_past m last families others family after size here left parent line rank
 
-no_family : {C : Type 0} (families : List (Family C)) → None ≡ slice_get families (length families - 1) → families ≡ []
+-- there is none
+pub no_family : {C : Type 0} (families : List (Family C)) → None ≡ slice_get families (length families - 1) → families ≡ []
 no_family [] none = refl
 no_family (first ∷ families) none =
     let last = length (first ∷ families) - 1 in
@@ -194,25 +183,29 @@ skips_no_root m families None none = rw (no_family families none) refl
 skips_no_root m families (Some q) none = rw (no_family families none) refl
 
 -- a family that goes on to a child that is left
-pub still_open : {C : Type 0} (m : Semantics C) (belongs : ℕ → C → Type 0) (family after : Family C) → IsOpenFamily m belongs family → after.parent ≡ family.parent → after.line ≡ family.line → after.used ≡ family.used → after.tracks ≡ family.tracks
+pub still_open : {C : Type 0} (m : Semantics C) (belongs : ℕ → C → Type 0) (family after : Family C) → IsOpenFamily m belongs family → after.parent ≡ family.parent → after.line ≡ family.line → after.children ≡ family.children → after.used ≡ family.used → after.runs ≡ family.runs
     → after.rank < length (child_programs m.ops family.parent family.line) → IsOpenFamily m belongs after
-still_open m belongs family after h parent line used tracks left = record {
+still_open m belongs family after h parent line count used runs left = record {
   partial = rw parent h.partial;
+  short = rw parent h.short;
   here = rw (parent, line) h.here;
   left = rw (parent, line) left;
+  count = rw (parent, line, count) h.count;
   used = rw (parent, used) h.used;
-  tracks = rw (parent, tracks) h.tracks;
+  runs = rw (parent, runs) h.runs;
 }
 
 -- a family that no child was taken of
-pub newly_open : {C : Type 0} (m : Semantics C) (belongs : ℕ → C → Type 0) (family : Family C) (parent : Program) (line : ℕ) → 0 < m.ops → IsPartial m.ops parent → IsOpen parent line → family.parent ≡ parent → family.line ≡ line → family.rank ≡ 0 → AreUsed m parent family.used → family.tracks.items ≡ []
-    → IsOpenFamily m belongs family
-newly_open m belongs family parent line some partial here parent_is line_is first used none = record {
-  partial = rw parent_is partial;
-  here = rw (parent_is, line_is) here;
-  left = rw (parent_is, line_is, first) (some_children m.ops parent line some (open_is_not_last m.ops parent line partial here));
-  used = rw parent_is used;
-  tracks = rw none (All-nil (IsTrack m belongs family.parent));
+pub newly_open : {C : Type 0} (m : Semantics C) (belongs : ℕ → C → Type 0) (family : Family C) (ops lines : ℕ) → ops ≡ m.ops → 0 < ops → lines ≡ length family.parent → length family.parent ≤ MAX_LINES → IsPartial m.ops family.parent → IsOpen family.parent family.line → family.rank ≡ 0
+    → family.children ≡ length (alphabet ops lines family.line) → AreUsed m family.parent family.used → AllStandAt m belongs family.parent family.runs.items → IsOpenFamily m belongs family
+newly_open m belongs family ops lines same_ops some count short partial here first children used runs = record {
+  partial = partial;
+  short = short;
+  here = here;
+  count = children ∙ ap (λ (n : ℕ). length (alphabet n lines family.line)) same_ops ∙ ap (λ (n : ℕ). length (alphabet m.ops n family.line)) count ∙ sym (count_children m.ops family.parent family.line);
+  left = rw first (some_children m.ops family.parent family.line (omega arith) (open_is_not_last m.ops family.parent family.line partial here));
+  used = used;
+  runs = runs;
 }
 
 -- with it its parent's children are pending, before the others

@@ -1,20 +1,21 @@
 -- What is asked of the marks of a tree, one after another: of each, that it is of the grammar, and where the tree has to
--- cover, that it shows what it says. Children that are twins may be passed over.
-use Rattle.std.specs.Prelude.{◌≡◌, ℕ, ◌<◌, ◌≤◌, ◌↔◌, IsTrue, Bool, true, false, Option, Some, None, List, [], ◌∷◌, ◌++◌, All, length, drop, reverse, flat_map, slice_index_or, option_to_list}
+-- cover, that it shows what it says. Children that are twins may be passed over. And how a walk goes over them.
+use Rattle.std.specs.Prelude.{◌≡◌, ℕ, ◌+◌, ◌<◌, ◌≤◌, ◌↔◌, IsTrue, Bool, true, false, Option, Some, None, List, [], ◌∷◌, ◌++◌, All, length, take, drop, reverse, flat_map, count_by, is_none, slice_index_or, option_to_list}
+use Rattle.program_model.specs.declared.alphabet.TheConstants.{MAX_LINES}
 use Rattle.program_model.specs.Semantics.{Semantics}
-use Rattle.program_model.specs.Program.{Program, IsOpen, IsPartial}
+use Rattle.program_model.specs.Program.{Program, IsOpen, IsPartial, empty}
 use Rattle.program_model.specs.Run.{Unmet, Loops}
-use Rattle.refutation_tree.specs.declared.ranges.TheConstants.{MAX_STEPS}
 use Rattle.refutation_tree.specs.declared.evidence.Mark.{Mark}
 use Rattle.refutation_tree.specs.declared.evidence.Mark.TheVariants as marks
-use Rattle.refutation_tree.specs.Covers.{Child, children}
-use Rattle.refutation_tree.specs.Grammar.{IsInRange, child_programs}
+use Rattle.refutation_tree.specs.declared.evidence.Tree.{Tree}
+use Rattle.refutation_tree.specs.Covers.{Child, children, IsCovered}
+use Rattle.refutation_tree.specs.Grammar.{IsInRange, IsTree, child_programs}
 use Rattle.pointer_symmetry.specs.Used.{AreUsed}
 use Rattle.pointer_symmetry.specs.Twins.{twins}
 use Rattle.refutation_check.specs.declared.family.Family.{Family}
-use Rattle.refutation_check.specs.declared.track.Track.{Track}
+use Rattle.refutation_check.specs.declared.walk.TheConstants.{LONGEST_PATH}
 use Rattle.refutation_check.specs.declared.walk.Walk.{Walk}
-use Rattle.refutation_check.specs.Inner.Runs.{IsTrack}
+use Rattle.refutation_check.specs.Inner.Runs.{AreRuns, AreTrials, AllStandAt}
 
 -- a split is of an undefined line
 abbrev pub SplitsOpen : Program → Mark → Type 0
@@ -35,16 +36,6 @@ brought m q marks.Twin = []
 brought m q marks.Waiting = []
 brought m q marks.Solved = []
 brought m q (marks.AtLimit t) = []
-
--- the run that the mark names shows that the partial program is refuted
-abbrev pub Refutes : {C : Type 0} → Semantics C → Program → Mark → Type 0
-Refutes m q (marks.Split line stamp) = ⊥
-Refutes m q (marks.Unmet t j) = Unmet m q t j
-Refutes m q (marks.Loops t i j) = Loops m q t i j
-Refutes m q marks.Twin = ⊥
-Refutes m q marks.Waiting = ⊥
-Refutes m q marks.Solved = ⊥
-Refutes m q (marks.AtLimit t) = ⊥
 
 -- the mark shows that the partial program is refuted, or splits it, or passes over one that may be passed over
 abbrev pub Shows : {C : Type 0} → Semantics C → Child → Mark → Type 0
@@ -69,15 +60,17 @@ AllStand m covering [] (mark ∷ ms) = ⊥
 AllStand m covering (c ∷ cs) [] = ⊥
 AllStand m covering (c ∷ cs) (mark ∷ ms) = Stands m covering c mark × AllStand m covering (brought m c.program mark ++ cs) ms
 
--- the mark names a run on the instance, and its steps are in their range
-abbrev pub NamesRun : ℕ → ℕ → Mark → Type 0
-NamesRun instances t (marks.Split line stamp) = ⊥
-NamesRun instances t (marks.Unmet named j) = (named ≡ t) × (t < instances) × (j ≤ MAX_STEPS)
-NamesRun instances t (marks.Loops named i j) = (named ≡ t) × (t < instances) × (i < j) × (j ≤ MAX_STEPS)
-NamesRun instances t marks.Twin = ⊥
-NamesRun instances t marks.Waiting = ⊥
-NamesRun instances t marks.Solved = ⊥
-NamesRun instances t (marks.AtLimit named) = ⊥
+-- the root, if it is there; it may not be passed over
+abbrev pub rooted : Option Program → List Child
+rooted None = []
+rooted (Some q) = record { program = q; skipped = false } ∷ []
+
+-- the tree is of the grammar, and covers, if it has to
+pub record Holds {C : Type 0} (m : Semantics C) (covering : Bool) (tree : Tree) : Type 0 where
+  pub is_tree : IsTree m.ops m.instances tree
+  pub covers : IsTrue covering → IsCovered m (twins m) (empty tree.size) tree.marks
+
+-- ---- a walk
 
 -- the children of a family for which no mark came yet
 abbrev pub waiting : {C : Type 0} → Semantics C → Family C → List Child
@@ -87,50 +80,46 @@ waiting m family = drop family.rank (children (twins m) m.ops family.parent fami
 abbrev pub waiting_in : {C : Type 0} → Semantics C → List (Family C) → List Child
 waiting_in m families = flat_map (waiting m) (reverse families)
 
--- whether the first of some partial programs may be passed over
-abbrev pub skips_first : List Child → Bool
-skips_first [] = false
-skips_first (c ∷ cs) = c.skipped
-
--- a family that was split at an undefined line, and has a child left; its used pointers and its tracks are the parent's
-pub record IsOpenFamily {C : Type 0} (m : Semantics C) (belongs : ℕ → C → Type 0) (family : Family C) : Type 0 where
-  pub partial : IsPartial m.ops family.parent
-  pub here : IsOpen family.parent family.line
-  pub left : family.rank < length (child_programs m.ops family.parent family.line)
-  pub used : AreUsed m family.parent family.used
-  pub tracks : All (IsTrack m belongs family.parent) family.tracks.items
-
--- the family has the track on an instance at a place, and is else as it was
-pub record HasTrackAt {C : Type 0} (m : Semantics C) (belongs : ℕ → C → Type 0) (t : ℕ) (old new : Family C) (place : ℕ) : Type 0 where
-  pub family : IsOpenFamily m belongs new
-  pub parent : new.parent ≡ old.parent
-  pub line : new.line ≡ old.line
-  pub rank : new.rank ≡ old.rank
-  pub within : place < length new.tracks.items
-  pub instance : (d : Track C) → (slice_index_or new.tracks.items place d).t ≡ t
-
--- the root, if it is there; it may not be passed over
-abbrev pub rooted : Option Program → List Child
-rooted None = []
-rooted (Some q) = record { program = q; skipped = false } ∷ []
+-- the families on the path from the root to the next partial program
+abbrev pub path : {C : Type 0} → Walk C → List (Family C)
+path walk = take walk.depth walk.families.items
 
 -- the partial programs for which no mark came yet, the next one first
 abbrev pub pending : {C : Type 0} → Semantics C → Walk C → List Child
-pending m walk = waiting_in m walk.families.items ++ rooted walk.root
+pending m walk = waiting_in m (path walk) ++ rooted walk.root
 
--- a partial program, as the next one that is pending
-abbrev pub as_next : {C : Type 0} → Semantics C → Walk C → Program → Child
-as_next m walk program = record { program = program; skipped = skips_first (pending m walk) }
+-- a family that was split at an undefined line, and has a child left; its used pointers and its runs are the parent's
+pub record IsOpenFamily {C : Type 0} (m : Semantics C) (belongs : ℕ → C → Type 0) (family : Family C) : Type 0 where
+  pub partial : IsPartial m.ops family.parent
+  pub short : length family.parent ≤ MAX_LINES
+  pub here : IsOpen family.parent family.line
+  pub count : family.children ≡ length (child_programs m.ops family.parent family.line)
+  pub left : family.rank < length (child_programs m.ops family.parent family.line)
+  pub used : AreUsed m family.parent family.used
+  pub runs : AllStandAt m belongs family.parent family.runs.items
 
--- the partial program is the next one that is pending
-abbrev pub IsNext : {C : Type 0} → Semantics C → Walk C → Program → Type 0
-IsNext m walk program = pending m walk ≡ as_next m walk program ∷ drop 1 (pending m walk)
+-- a partial program of a machine that is not too long
+pub record IsRoot (ops : ℕ) (q : Program) : Type 0 where
+  pub partial : IsPartial ops q
+  pub short : length q ≤ MAX_LINES
 
--- a walk over the partial programs of a machine that has an operation
+-- how many lines are undefined
+abbrev pub open_lines : Program → ℕ
+open_lines q = count_by is_none q
+
+-- a parent further down on a path has fewer undefined lines
+abbrev pub NarrowDown : {C : Type 0} → List (Family C) → Type 0
+NarrowDown {C} families = (place : ℕ) (d : Family C) → place < length families → open_lines (slice_index_or families place d).parent + place < MAX_LINES
+
+-- a walk over the partial programs of a machine: what it holds is enough for the longest path of a tree, and for each instance
 pub record IsWalk {C : Type 0} (m : Semantics C) (belongs : ℕ → C → Type 0) (walk : Walk C) : Type 0 where
-  pub some : 0 < m.ops
-  pub families : All (IsOpenFamily m belongs) walk.families.items
-  pub root : All (IsPartial m.ops) (option_to_list walk.root)
+  pub room : length walk.families.items ≡ LONGEST_PATH
+  pub within : walk.depth ≤ length walk.families.items
+  pub runs : All (λ (family : Family C). AreRuns belongs m.instances family.runs.items) walk.families.items
+  pub trials : AreTrials belongs m.instances walk.trials.items
+  pub families : All (IsOpenFamily m belongs) (path walk)
+  pub narrow : NarrowDown (path walk)
+  pub root : All (IsRoot m.ops) (option_to_list walk.root)
 
 -- the walk is where it was
 pub record IsSameWalk {C : Type 0} (m : Semantics C) (belongs : ℕ → C → Type 0) (old new : Walk C) : Type 0 where

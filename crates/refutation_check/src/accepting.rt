@@ -1,55 +1,38 @@
-ghost use Rattle.std.specs.Prelude.{◌≡◌, ◌<◌, ◌≤◌, ◌↔◌, IsTrue, IfOk, IfSome, All, length};
+ghost use Rattle.std.specs.Prelude.{◌≡◌, ◌<◌, ◌≤◌, ◌↔◌, IsTrue, IfOk, All, length};
 ghost use Rattle.program_model.specs.Semantics.{Semantics};
 ghost use Rattle.program_model.specs.Program.{IsPartial};
-ghost use Rattle.program_model.specs.Run.{Ends};
 ghost use Rattle.refutation_tree.specs.Accepted.{AreEndsFrom, IsAccepted};
 ghost use Rattle.pointer_symmetry.specs.Twins.{twins};
+ghost use Rattle.refutation_check.specs.Walking.{IsWalk};
 
 use crate::grammar::{fits_outcome, is_headed};
-use crate::run::Run;
 use crate::trees::has_trees;
+use crate::walk::Walk;
 use flag_rules::OutOfMemory;
 use program_model::{Machine, Partial};
 use refutation_tree::{Answer, MAX_STEPS};
 use std::alloc::Global;
 
-// Whether the run of a program on an instance ends after so many steps with the goal met.
-fn ends<M: Machine>(
-    alloc: Global,
-    machine: &M,
-    program: &Partial,
-    t: u8,
-    steps: u64,
-    meter: &mut M::Meter,
-) -> Result<bool, OutOfMemory>
-    requires instance { t < (M.semantics machine.now).instances }
-    requires partial { IsPartial (M.semantics machine.now).ops program.now }
-    requires few { steps ≤ MAX_STEPS }
-    ensures { IfOk result (λ ends. IsTrue ends ↔ Ends (M.semantics machine.now) program.now t steps) }
-{
-    let mut run = Run::start(alloc, machine, t)?;
-    Ok(run.missing_at_end(machine, program, t, steps, meter) == Some(0))
-}
-
-// Whether the runs of a program end so, on the instances in order, with the goal met.
+// Whether the runs of a program end after so many steps, on the instances in order, with the goal met.
 fn all_end<M: Machine>(
-    alloc: Global,
+    walk: &mut Walk<M::Cfg>,
     machine: &M,
     program: &Partial,
     steps: &[u64],
     meter: &mut M::Meter,
-) -> Result<bool, OutOfMemory>
+) -> bool
     requires partial { IsPartial (M.semantics machine.now).ops program.now }
     requires one_for_each { length steps.now ≡ (M.semantics machine.now).instances }
     requires in_range { All (λ j. j ≤ MAX_STEPS) steps.now }
-    ensures { IfOk result (λ all. IsTrue all ↔ AreEndsFrom (M.semantics machine.now) program.now 0 steps.now) }
+    requires walk { IsWalk (M.semantics machine.now) (M.belongs machine.now) walk.old }
+    ensures { IsTrue result ↔ AreEndsFrom (M.semantics machine.now) program.now 0 steps.now }
 {
     for t in 0..machine.instances() {
-        if !ends(alloc, machine, program, t, steps[usize::from(t)], meter)? {
-            return Ok(false);
+        if !walk.ends(machine, program, t, steps[usize::from(t)], meter) {
+            return false;
         }
     }
-    Ok(true)
+    true
 }
 
 /// Whether an answer is accepted for a machine and a number of lines: it is of the grammar over the machine's operations, its
@@ -67,14 +50,15 @@ pub fn accepts<M: Machine>(
     ensures { let m = M.semantics machine.now in
         IfOk result (λ accepted. IsTrue accepted ↔ IsAccepted m (twins m) lines answer.now) }
 {
+    let mut walk = Walk::new(alloc, machine)?;
     if !is_headed(machine, lines, answer)
         || !fits_outcome(machine.ops(), answer)
-        || !has_trees(alloc, machine, answer, meter)?
+        || !has_trees(&mut walk, machine, answer, meter)
     {
         return Ok(false);
     }
     match &answer.program {
-        Some(program) => all_end(alloc, machine, program, answer.ends.as_slice(), meter),
+        Some(program) => Ok(all_end(&mut walk, machine, program, answer.ends.as_slice(), meter)),
         None => Ok(true),
     }
 }

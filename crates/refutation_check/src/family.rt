@@ -1,52 +1,69 @@
-ghost use Rattle.std.specs.Prelude.{◌≡◌, ◌+◌, ◌<◌, ◌↔◌, [], IsTrue, IfOk, Some, length, slice_get};
+ghost use Rattle.std.specs.Prelude.{◌≡◌, ◌+◌, ◌<◌, ◌↔◌, IsTrue, All, IfOk, Some, length, slice_get};
 ghost use Rattle.program_model.specs.Semantics.{Semantics};
 ghost use Rattle.program_model.specs.Alphabet.{alphabet};
-ghost use Rattle.program_model.specs.Program.{Extends, IsPartial};
+ghost use Rattle.program_model.specs.Program.{Extends, IsOpen, IsPartial};
 ghost use Rattle.refutation_tree.specs.Grammar.{child_programs};
-ghost use Rattle.pointer_symmetry.specs.Used.{AreUsed};
-ghost use Rattle.refutation_check.specs.Walking.{HasTrackAt, IsOpenFamily, NamesRun, Refutes, skips_first, waiting};
+ghost use Rattle.refutation_check.specs.Walking.{IsOpenFamily, waiting};
+ghost use Rattle.refutation_check.specs.Inner.Runs.{AreRuns, IsTrial};
+ghost use Rattle.refutation_check.specs.Inner.Walking.{NamesRun, Refutes, skips_first};
 
-use crate::track::Track;
+use crate::mark::first_step;
+use crate::run::{Run, begin_all, new_runs};
+use crate::trial::Trial;
 use flag_rules::OutOfMemory;
 use pointer_symmetry::{is_twin, used_by};
 use program_model::{Instr, Machine, Partial, alphabet_len, instr_at};
 use refutation_tree::Mark;
 use std::alloc::Global;
 
-/// The children of a partial program that was split at a line, from a rank on; the set of the pointers that it uses; and its
-/// runs on the instances that marks of its children named, where they stand.
+/// The children of a partial program that was split at a line, from a rank on; how many they are; the set of the pointers that
+/// it uses; and its runs, one on each instance, where they stand.
 #[derive(Drop)]
 pub(crate) struct Family<C: Drop> {
     parent: Partial,
     line: u8,
     rank: u32,
+    children: u32,
     used: u8,
-    tracks: Vec<Track<C>>,
+    runs: Vec<Run<C>>,
 }
 
 impl<C: Drop> Family<C> {
-    /// All children of a partial program that is split at a line.
+    /// A family that no partial program was split into yet.
     pub(crate) fn new<M: Machine<Cfg = C>>(
         alloc: Global,
         machine: &M,
-        parent: Partial,
-        line: u8,
-    ) -> Family<C>
-        requires { IsPartial (M.semantics machine.now).ops parent }
-        ensures parent { result.parent ≡ parent }
-        ensures line { result.line ≡ line }
-        ensures rank { result.rank ≡ 0 }
-        ensures used { AreUsed (M.semantics machine.now) parent result.used }
-        ensures tracks { result.tracks.items ≡ [] }
+    ) -> Result<Family<C>, OutOfMemory>
+        ensures { IfOk result (λ family. AreRuns (M.belongs machine.now) (M.semantics machine.now).instances
+            family.runs.items) }
     {
-        let used = used_by(machine, &parent);
-        Family {
-            parent,
-            line,
+        Ok(Family {
+            parent: Partial::empty(1),
+            line: 0,
             rank: 0,
-            used,
-            tracks: Vec::new(alloc),
-        }
+            children: 0,
+            used: 0,
+            runs: new_runs(alloc, machine)?,
+        })
+    }
+
+    /// Becomes all children of a partial program that is split at a line.
+    pub(crate) fn split<M: Machine<Cfg = C>>(&mut self, machine: &M, parent: Partial, line: u8)
+        requires partial { IsPartial (M.semantics machine.now).ops parent }
+        requires here { IsOpen parent line }
+        requires runs { AreRuns (M.belongs machine.now) (M.semantics machine.now).instances self.old.runs.items }
+        ensures family { IsOpenFamily (M.semantics machine.now) (M.belongs machine.now) self.new }
+        ensures parent { self.new.parent ≡ parent }
+        ensures line { self.new.line ≡ line }
+        ensures rank { self.new.rank ≡ 0 }
+        ensures runs { AreRuns (M.belongs machine.now) (M.semantics machine.now).instances self.new.runs.items }
+    {
+        self.children = alphabet_len(machine.ops(), parent.lines(), line);
+        self.used = used_by(machine, &parent);
+        self.parent = parent;
+        self.line = line;
+        self.rank = 0;
+        begin_all(&mut self.runs, machine);
     }
 
     // The instruction of the rank, which the child of the rank adds to the parent.
@@ -85,59 +102,59 @@ impl<C: Drop> Family<C> {
         ensures line { self.new.line ≡ self.old.line }
         ensures rank { self.new.rank ≡ self.old.rank + 1 }
         ensures used { self.new.used ≡ self.old.used }
-        ensures tracks { self.new.tracks ≡ self.old.tracks }
+        ensures children { self.new.children ≡ self.old.children }
+        ensures runs { self.new.runs ≡ self.old.runs }
         ensures left { IsTrue result ↔ (self.new.rank
             < length (child_programs (M.semantics machine.now).ops self.old.parent self.old.line)) }
     {
-        let children = alphabet_len(machine.ops(), self.parent.lines(), self.line);
         self.rank += 1;
-        self.rank < children
-    }
-
-    // The place of the track on an instance, which is made if there is none.
-    fn place_of<M: Machine<Cfg = C>>(
-        &mut self,
-        alloc: Global,
-        machine: &M,
-        t: u8,
-    ) -> Result<usize, OutOfMemory>
-        requires instance { t < (M.semantics machine.now).instances }
-        requires family { IsOpenFamily (M.semantics machine.now) (M.belongs machine.now) self.old }
-        ensures { IfOk result
-            (λ place. HasTrackAt (M.semantics machine.now) (M.belongs machine.now) t self.old self.new place) }
-    {
-        for place in 0..self.tracks.len() {
-            if self.tracks[place].instance() == t {
-                return Ok(place);
-            }
-        }
-        self.tracks.push(Track::start(alloc, machine, t)?)?;
-        Ok(self.tracks.len() - 1)
+        self.rank < self.children
     }
 
     /// Whether the run that a mark names shows that a program which extends the parent is refuted. The run goes on from where
     /// the parent's run stands.
     pub(crate) fn refutes<M: Machine<Cfg = C>>(
         &mut self,
-        alloc: Global,
+        trial: &mut Trial<C>,
         machine: &M,
         program: &Partial,
         t: u8,
         mark: Mark,
         meter: &mut M::Meter,
-    ) -> Result<bool, OutOfMemory>
+    ) -> bool
         requires family { IsOpenFamily (M.semantics machine.now) (M.belongs machine.now) self.old }
+        requires runs { AreRuns (M.belongs machine.now) (M.semantics machine.now).instances self.old.runs.items }
         requires partial { IsPartial (M.semantics machine.now).ops program.now }
         requires extends { Extends program.now self.old.parent }
         requires names { NamesRun (M.semantics machine.now).instances t mark }
-        ensures family { IfOk result (λ refutes. IsOpenFamily (M.semantics machine.now) (M.belongs machine.now) self.new) }
-        ensures parent { IfOk result (λ refutes. self.new.parent ≡ self.old.parent) }
-        ensures line { IfOk result (λ refutes. self.new.line ≡ self.old.line) }
-        ensures rank { IfOk result (λ refutes. self.new.rank ≡ self.old.rank) }
-        ensures refutes { IfOk result (λ refutes. IsTrue refutes ↔ Refutes (M.semantics machine.now) program.now mark) }
+        requires trial { IsTrial (M.belongs machine.now) t trial.old }
+        ensures family { IsOpenFamily (M.semantics machine.now) (M.belongs machine.now) self.new }
+        ensures runs { AreRuns (M.belongs machine.now) (M.semantics machine.now).instances self.new.runs.items }
+        ensures parent { self.new.parent ≡ self.old.parent }
+        ensures line { self.new.line ≡ self.old.line }
+        ensures rank { self.new.rank ≡ self.old.rank }
+        ensures trial { IsTrial (M.belongs machine.now) t trial.new }
+        ensures refutes { IsTrue result ↔ Refutes (M.semantics machine.now) program.now mark }
     {
-        let place = self.place_of(alloc, machine, t)?;
-        let track = &mut self.tracks[place];
-        Ok(track.refutes(machine, &self.parent, program, mark, meter))
+        let waiting = &mut self.runs[usize::from(t)];
+        trial.set_out(machine, waiting, &self.parent, t, first_step(mark), meter);
+        trial.refutes(machine, program, t, mark, meter)
     }
+}
+
+/// So many families that no partial program was split into yet.
+pub(crate) fn new_families<M: Machine>(
+    alloc: Global,
+    machine: &M,
+    count: u8,
+) -> Result<Vec<Family<M::Cfg>>, OutOfMemory>
+    ensures count { IfOk result (λ families. length families.items ≡ count) }
+    ensures runs { IfOk result (λ families. All
+        (λ family. AreRuns (M.belongs machine.now) (M.semantics machine.now).instances family.runs.items) families.items) }
+{
+    let mut families = Vec::new(alloc);
+    for _ in 0..count {
+        families.push(Family::new(alloc, machine)?)?;
+    }
+    Ok(families)
 }

@@ -1,6 +1,7 @@
-ghost use Rattle.std.specs.Prelude.{◌↔◌, IsTrue};
+ghost use Rattle.std.specs.Prelude.{◌≡◌, ◌↔◌, IsTrue};
 ghost use Rattle.refutation_tree.specs.Grammar.{IsInRange};
 ghost use Rattle.refutation_check.specs.Walking.{SplitsOpen};
+ghost use Rattle.refutation_check.specs.Inner.Walking.{first_step};
 
 use program_model::Partial;
 use refutation_tree::{MAX_SPLITS, MAX_STEPS, Mark};
@@ -25,5 +26,16 @@ pub(crate) fn splits_open(mark: Mark, program: &Partial) -> bool
     match mark {
         Mark::Split { line, .. } => line < program.lines() && program.at(line).is_none(),
         _ => true,
+    }
+}
+
+/// The first step of a run that a mark speaks of; 0 where it names no run.
+pub(crate) fn first_step(mark: Mark) -> u64
+    ensures { result ≡ first_step mark }
+{
+    match mark {
+        Mark::Unmet { steps, .. } => steps,
+        Mark::Loops { from, .. } => from,
+        _ => 0,
     }
 }

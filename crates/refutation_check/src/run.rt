@@ -2,7 +2,7 @@ ghost use Rattle.std.specs.Prelude.{◌≡◌, ℕ, ◌<◌, ◌≤◌, ◌↔�
 ghost use Rattle.program_model.specs.Semantics.{Semantics};
 ghost use Rattle.program_model.specs.Program.{Program, IsPartial};
 ghost use Rattle.program_model.specs.Run.{Loops};
-ghost use Rattle.refutation_check.specs.Inner.Runs.{StandsAt, HasMoved, HasCome, TellsEnd};
+ghost use Rattle.refutation_check.specs.Inner.Runs.{AllStandAt, AreRuns, StandsAt, HasMoved, HasCome, TellsEnd};
 
 use crate::configuration::Configuration;
 use flag_rules::OutOfMemory;
@@ -17,6 +17,33 @@ pub(crate) struct Run<C: Drop> {
     pub(crate) steps: u64,
 }
 
+/// New runs, one on each instance.
+pub(crate) fn new_runs<M: Machine>(
+    alloc: Global,
+    machine: &M,
+) -> Result<Vec<Run<M::Cfg>>, OutOfMemory>
+    ensures { IfOk result
+        (λ runs. AreRuns (M.belongs machine.now) (M.semantics machine.now).instances runs.items) }
+{
+    let mut runs = Vec::new(alloc);
+    for t in 0..machine.instances() {
+        runs.push(Run::start(alloc, machine, t)?)?;
+    }
+    Ok(runs)
+}
+
+/// Begins runs anew, one on each instance.
+pub(crate) fn begin_all<M: Machine>(runs: &mut [Run<M::Cfg>], machine: &M)
+    requires { AreRuns (M.belongs machine.now) (M.semantics machine.now).instances runs.old }
+    ensures stand { (q : Program) → 0 < length q →
+        AllStandAt (M.semantics machine.now) (M.belongs machine.now) q runs.new }
+    ensures count { length runs.new ≡ length runs.old }
+{
+    for t in 0..machine.instances() {
+        runs[usize::from(t)].begin(machine, t);
+    }
+}
+
 impl<C: Drop> Run<C> {
     /// The run on an instance that has made no step.
     pub(crate) fn start<M: Machine<Cfg = C>>(
@@ -28,6 +55,7 @@ impl<C: Drop> Run<C> {
         ensures stands { (q : Program) → 0 < length q → IfOk result
             (λ run. StandsAt (M.semantics machine.now) (M.belongs machine.now) q t run) }
         ensures steps { IfOk result (λ run. run.steps ≡ 0) }
+        ensures value { IfOk result (λ run. M.belongs machine.now t run.here.value) }
     {
         let here = Configuration {
             line: 0,
@@ -43,6 +71,7 @@ impl<C: Drop> Run<C> {
         ensures stands { (q : Program) → 0 < length q →
             StandsAt (M.semantics machine.now) (M.belongs machine.now) q t self.new }
         ensures steps { self.new.steps ≡ 0 }
+        ensures value { M.belongs machine.now t self.new.here.value }
     {
         machine.begin(t, &mut self.here.value);
         self.here.line = 0;

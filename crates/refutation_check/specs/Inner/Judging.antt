@@ -1,14 +1,13 @@
 -- What is asked of an answer, part by part.
-use Rattle.std.specs.Prelude.{◌≡◌, ℕ, ◌+◌, ◌<◌, IsTrue, Bool, Some, length, slice_index_or}
+use Rattle.std.specs.Prelude.{◌≡◌, ℕ, ◌+◌, ◌<◌, Some, length, slice_index_or}
 use Rattle.program_model.specs.declared.alphabet.TheConstants.{MAX_LINES}
 use Rattle.program_model.specs.declared.machine.TheConstants.{MAX_INSTANCES, MAX_POINTERS}
 use Rattle.program_model.specs.Semantics.{Semantics}
-use Rattle.program_model.specs.Program.{Program, line_at, IsInstr, empty}
+use Rattle.program_model.specs.Program.{Program, line_at, IsInstr}
 use Rattle.program_model.specs.declared.instr.Instr.{Instr}
 use Rattle.refutation_tree.specs.declared.evidence.Tree.{Tree}
 use Rattle.refutation_tree.specs.declared.evidence.Outcome.{Outcome}
 use Rattle.refutation_tree.specs.declared.evidence.Answer.{Answer}
-use Rattle.refutation_tree.specs.Covers.{IsCovered}
 use Rattle.refutation_tree.specs.Grammar.{IsFromOneTo, IsTree, last_size}
 use Rattle.refutation_tree.specs.Accepted.{CoversRefuted}
 use Rattle.pointer_symmetry.specs.Twins.{twins}
@@ -22,11 +21,6 @@ pub record IsHeaded {C : Type 0} (m : Semantics C) (lines : ℕ) (a : Answer) : 
   pub lines_in_range : IsFromOneTo MAX_LINES a.lines
   pub instances_in_range : IsFromOneTo MAX_INSTANCES a.instances
   pub size : IsFromOneTo a.lines (last_size a.lines a.outcome)
-
--- the tree is of the grammar, and covers, if it has to
-pub record Holds {C : Type 0} (m : Semantics C) (covering : Bool) (tree : Tree) : Type 0 where
-  pub is_tree : IsTree m.ops m.instances tree
-  pub covers : IsTrue covering → IsCovered m (twins m) (empty tree.size) tree.marks
 
 -- the tree is the one of a size; it is of the grammar, and covers, if the outcome says that its size is refuted
 pub record HoldsAt {C : Type 0} (m : Semantics C) (outcome : Outcome) (size : ℕ) (tree : Tree) : Type 0 where

@@ -1,15 +1,14 @@
-use Rattle.std.proofs.Common.{◌∙◌, sym, subst, refl, ℕ, Option, Bool}
-use Rattle.std.specs.Prelude.{IfSome, ◌↔◌, IsTrue}
+use Rattle.std.proofs.Common.{◌∙◌, sym, subst, refl, ℕ, Option}
+use Rattle.std.specs.Prelude.{IfSome}
 use Rattle.std.proofs.lemmas.Bool.{false≢true}
-use Rattle.std.proofs.lemmas.Result.{IfOk-weaker}
-use Rattle.program_model.specs.Program.{Program}
+use Rattle.std.proofs.lemmas.Option.{same_Some}
+use Rattle.program_model.specs.Program.{Program, IsPartial}
 use Rattle.refutation_tree.specs.declared.evidence.Answer.{Answer}
 use Rattle.refutation_tree.specs.Grammar.{FitsOutcome}
-use Rattle.refutation_tree.specs.Accepted.{AreEndsFrom, IsAccepted}
-use Rattle.pointer_symmetry.specs.Twins.{twins}
-use Rattle.refutation_check.proofs.Parts.{accepted, judged}
+use Rattle.refutation_tree.specs.Accepted.{AreEndsFrom}
+use Rattle.refutation_check.proofs.Parts.{accepted, given_program, judged}
 use Rattle.refutation_check.proofs.accepting.accepts.Goals as goal
-use Rattle.refutation_check.proofs.accepting.accepts.Goals.{then-not-is_headed-via-then-not-is_headed, then-not-is_headed-via-else-not-is_headed+then-not-fits_outcome, then-not-is_headed-via-else-not-is_headed+else-not-fits_outcome+in_ok-has_trees+then-not-branch}
+use Rattle.refutation_check.proofs.accepting.accepts.Goals.{then-not-is_headed-via-then-not-is_headed, then-not-is_headed-via-else-not-is_headed+then-not-fits_outcome, then-not-is_headed-via-else-not-is_headed+else-not-fits_outcome+then-not-has_trees}
 
 pub returns-then-not-is_headed : goal.returns-then-not-is_headed
 returns-then-not-is_headed g c =
@@ -20,7 +19,7 @@ returns-then-not-is_headed g c =
           elim c.then-not-is_headed.branch [
             | then-not-is_headed-via-then-not-is_headed w ↦ absurd (false≢true (sym w.if-not-is_headed.true ∙ c.is_headed.ensures.1 it.headed))
             | then-not-is_headed-via-else-not-is_headed+then-not-fits_outcome w ↦ absurd (false≢true (sym w.if-not-fits_outcome.true ∙ w.fits_outcome.ensures.1 (subst (λ (ops : ℕ). FitsOutcome ops c.args.answer.now c.args.answer.now.outcome) (sym w.ops.ensures.value) it.fits)))
-            | then-not-is_headed-via-else-not-is_headed+else-not-fits_outcome+in_ok-has_trees+then-not-branch w ↦ absurd (false≢true (sym w.if-not-branch.true ∙ w.in_ok-has_trees.ensures.1 it.trees))
+            | then-not-is_headed-via-else-not-is_headed+else-not-fits_outcome+then-not-has_trees w ↦ absurd (false≢true (sym w.if-not-has_trees.true ∙ w.has_trees.ensures.has.1 it.trees))
           ],
     )
 
@@ -28,27 +27,33 @@ pub returns-in-Some : goal.returns-in-Some
 returns-in-Some g c =
     let m = g.M.Machine.semantics c.args.machine.now in
     let answer : Answer = c.args.answer.now in
-    let fits = subst (λ (ops : ℕ). FitsOutcome ops answer answer.outcome) c.ops.ensures.value (c.fits_outcome.ensures.0 c.if-not-fits_outcome.false) in
-    let more : (all : Bool) → (IsTrue all ↔ AreEndsFrom m c.in-Some.program 0 c.as_slice.result.now) → IsTrue all ↔ IsAccepted m (twins m) c.args.lines answer = λ all ends. (
+    let fits = subst (λ (ops : ℕ). FitsOutcome ops answer answer.outcome) c.ops.ensures.value (c.fits_outcome.ensures.0 c.if-not-fits_outcome.false) in (
       λ h. accepted m c.args.lines answer (record {
         headed = c.is_headed.ensures.0 c.if-not-is_headed.false;
         fits = fits;
-        trees = c.in_ok-has_trees.ensures.0 c.if-not-branch.false;
-        ends = subst (λ (o : Option Program). IfSome o (λ program. AreEndsFrom m program 0 answer.ends)) (sym c.in-Some.is) (subst (AreEndsFrom m c.in-Some.program 0) c.as_slice.ensures (ends.0 h));
+        trees = c.has_trees.ensures.has.0 c.if-not-has_trees.false;
+        ends = subst (λ (o : Option Program). IfSome o (λ program. AreEndsFrom m program 0 answer.ends)) (sym c.in-Some.is) (subst (AreEndsFrom m c.in-Some.program 0) c.as_slice.ensures (c.all_end.ensures.0 h));
       }),
-      λ accepted. ends.1 (subst (AreEndsFrom m c.in-Some.program 0) (sym c.as_slice.ensures) (subst (λ (o : Option Program). IfSome o (λ program. AreEndsFrom m program 0 answer.ends)) c.in-Some.is accepted.ends)),
-    ) in
-    IfOk-weaker c.all_end.result (λ all. IsTrue all ↔ AreEndsFrom m c.in-Some.program 0 c.as_slice.result.now) (λ all. IsTrue all ↔ IsAccepted m (twins m) c.args.lines answer) more c.all_end.ensures
+      λ accepted. c.all_end.ensures.1 (subst (AreEndsFrom m c.in-Some.program 0) (sym c.as_slice.ensures) (subst (λ (o : Option Program). IfSome o (λ program. AreEndsFrom m program 0 answer.ends)) c.in-Some.is accepted.ends)),
+    )
 
-pub returns-in-None : goal.returns-in-None
-returns-in-None g c =
+pub all_end-requires-clause-partial : goal.all_end-requires-clause-partial
+all_end-requires-clause-partial g c =
+    let m = g.M.Machine.semantics c.args.machine.now in
+    let answer : Answer = c.args.answer.now in
+    let fits = subst (λ (ops : ℕ). FitsOutcome ops answer answer.outcome) c.ops.ensures.value (c.fits_outcome.ensures.0 c.if-not-fits_outcome.false) in
+    let has = (given_program m.ops answer answer.outcome c.in-Some.program fits c.in-Some.is).1 in
+    subst (IsPartial m.ops) (same_Some has.program c.in-Some.program (sym has.given ∙ c.in-Some.is)) has.is_program.is_partial
+
+pub returns : goal.returns
+returns g c =
     let m = g.M.Machine.semantics c.args.machine.now in
     let answer : Answer = c.args.answer.now in
     let fits = subst (λ (ops : ℕ). FitsOutcome ops answer answer.outcome) c.ops.ensures.value (c.fits_outcome.ensures.0 c.if-not-fits_outcome.false) in (
       λ h. accepted m c.args.lines answer (record {
         headed = c.is_headed.ensures.0 c.if-not-is_headed.false;
         fits = fits;
-        trees = c.in_ok-has_trees.ensures.0 c.if-not-branch.false;
+        trees = c.has_trees.ensures.has.0 c.if-not-has_trees.false;
         ends = subst (λ (o : Option Program). IfSome o (λ program. AreEndsFrom m program 0 answer.ends)) (sym c.in-None.is) tt;
       }),
       λ accepted. refl,

@@ -1,27 +1,33 @@
-use Rattle.std.proofs.Common.{◌∙◌, ◌-◌, ◌≡◌, [], sym, ap, length, subst, List}
-use Rattle.std.specs.Prelude.{All, Option, option_to_list, slice_get, Some, None}
-use Rattle.std.proofs.lemmas.List.Elements.{All-head}
-use Rattle.program_model.specs.Program.{Program, IsPartial}
+use Rattle.std.proofs.Common.{◌∙◌, ◌-◌, ◌≡◌, sym, ap, length, subst, take, List}
+use Rattle.std.specs.Prelude.{slice_get, Some, None}
 use Rattle.refutation_check.specs.declared.family.Family.{Family}
-use Rattle.refutation_check.specs.Walking.{rooted}
-use Rattle.refutation_check.proofs.Waiting.{next_is_child, next_is_root}
+use Rattle.refutation_check.specs.Walking.{path, rooted}
+use Rattle.refutation_check.proofs.Waiting.{next_is_child}
+use Rattle.refutation_check.proofs.Walks.{next_child_narrow, next_root_narrow}
 use Rattle.refutation_check.proofs.walk.Walk.next.Goals as goal
 
-pub returns-in-Some-clause-some : goal.returns-in-Some-clause-some
-returns-in-Some-clause-some g c =
+pub returns-in-Some-clause-next : goal.returns-in-Some-clause-next
+returns-in-Some-clause-next g c =
     let m = g.M.Machine.semantics c.args.machine.now in
     let walk = c.args.self.now in
-    let last : slice_get walk.families.items (length walk.families.items - 1) ≡ Some c.in-Some.family.now =
-    subst (λ (l : List (Family _)). slice_get l (length l - 1) ≡ Some c.in-Some.family.now) c.deref.ensures.value (sym c.in-Some.ensures.value) in
-    (c.child.ensures.partial, next_is_child m walk.families.items (rooted walk.root) c.in-Some.family.now c.child.result last c.child.ensures.value)
+    let family = c.in-Some.family.now in
+    let last : slice_get (path walk) (length (path walk) - 1) ≡ Some family =
+    subst (λ (l : List (Family _)). slice_get (take walk.depth l) (length (take walk.depth l) - 1) ≡ Some family) c.deref.ensures.value (sym c.in-Some.ensures.value) in
+    next_is_child m (path walk) (rooted walk.root) family c.child.result last c.child.ensures.value
 
-pub returns-in-Some-root-clause-some : goal.returns-in-Some-root-clause-some
-returns-in-Some-root-clause-some g c =
+pub returns-in-Some-clause-narrow : goal.returns-in-Some-clause-narrow
+returns-in-Some-clause-narrow g c =
     let m = g.M.Machine.semantics c.args.machine.now in
     let walk = c.args.self.now in
-    let none : None ≡ slice_get walk.families.items (length walk.families.items - 1) =
-    subst (λ (l : List (Family _)). None ≡ slice_get l (length l - 1)) c.deref.ensures.value c.in-None.ensures.value in
-    let is : walk.root ≡ Some c.copy.result = c.in-Some-root.is ∙ ap Some (sym c.copy.ensures) in (
-      All-head (IsPartial m.ops) c.copy.result [] (subst (λ (o : Option Program). All (IsPartial m.ops) (option_to_list o)) is c.requires.root),
-      next_is_root m walk.families.items walk.root c.copy.result none is,
-    )
+    let family = c.in-Some.family.now in
+    let last : slice_get (path walk) (length (path walk) - 1) ≡ Some family =
+    subst (λ (l : List (Family _)). slice_get (take walk.depth l) (length (take walk.depth l) - 1) ≡ Some family) c.deref.ensures.value (sym c.in-Some.ensures.value) in
+    next_child_narrow m (g.M.Machine.belongs c.args.machine.now) walk c.requires family c.child.result last c.child.ensures.value
+
+pub returns-in-Some-root-clause-narrow : goal.returns-in-Some-root-clause-narrow
+returns-in-Some-root-clause-narrow g c =
+    let m = g.M.Machine.semantics c.args.machine.now in
+    let walk = c.args.self.now in
+    let none : None ≡ slice_get (path walk) (length (path walk) - 1) =
+    subst (λ (l : List (Family _)). None ≡ slice_get (take walk.depth l) (length (take walk.depth l) - 1)) c.deref.ensures.value c.in-None.ensures.value in
+    next_root_narrow m (g.M.Machine.belongs c.args.machine.now) walk c.requires c.copy.result none (c.in-Some-root.is ∙ ap Some (sym c.copy.ensures))
