@@ -5,3 +5,4 @@ pub mod Stages
 pub mod Told
 pub mod Completing
 pub mod Starting
+pub mod Marking

@@ -301,20 +301,19 @@ impl<C: Drop> Progress<C> {
             self.now.walk self.now.program (λ more. InstrsToCome (M.semantics machine.now) texts (length self.now.program) (take place self.now.program) (line.now ∷ more)) result }
     {
         if says(line, b"end") {
-            self.before_ends(machine, 0)
+            self.before_ends(0, machine.instances())
         } else {
             Stage::Rejected
         }
     }
 
-    // What comes where the ends of the runs of the program on the instances from one on are to come.
-    fn before_ends<M: Machine<Cfg = C>>(&self, machine: &M, t: u8) -> Stage
-        requires partial { IsPartial (M.semantics machine.now).ops self.now.program }
-        requires instances { t ≤ (M.semantics machine.now).instances }
-        ensures { (texts : Sequence (Sequence ℕ)) (lines : ℕ) → Remains (M.semantics machine.now) texts lines
-            self.now.walk self.now.program (λ more. EndsToCome (M.semantics machine.now) self.now.program t more) result }
+    // What comes where the ends of the runs of the program on the instances from one on are to come, of so many.
+    fn before_ends(&self, t: u8, instances: u8) -> Stage
+        ensures { (m : Semantics C) (texts : Sequence (Sequence ℕ)) (lines : ℕ) →
+            IsPartial m.ops self.now.program → instances ≡ m.instances → t ≤ m.instances →
+            Remains m texts lines self.now.walk self.now.program (λ more. EndsToCome m self.now.program t more) result }
     {
-        if t < machine.instances() {
+        if t < instances {
             Stage::Ends { t }
         } else {
             Stage::End
@@ -335,13 +334,14 @@ impl<C: Drop> Progress<C> {
         ensures remains { (texts : Sequence (Sequence ℕ)) (lines : ℕ) → Remains (M.semantics machine.now) texts lines
             self.new.walk self.new.program (λ more. EndsToCome (M.semantics machine.now) self.old.program t (line.now ∷ more)) result }
     {
+        let instances = machine.instances();
         let Some(steps) = ends_of(line, t) else {
             return Stage::Rejected;
         };
         if !self.walk.ends(machine, &self.program, t, steps, meter) {
             return Stage::Rejected;
         }
-        self.before_ends(machine, t + 1)
+        self.before_ends(t + 1, instances)
     }
 
     // What comes after the last line.

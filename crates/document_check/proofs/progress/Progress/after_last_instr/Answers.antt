@@ -15,7 +15,7 @@ returns-then-says g c = λ texts lines.
     let is : text ≡ codes "end" = c.says.ensures.0 c.if-says.true in
     at.remains_on m texts lines c.args.self.now.walk program (λ more. InstrsToCome m texts (length program) (take place program) (text ∷ more)) (λ more. EndsToCome m program 0 more) c.before_ends.result
     (λ more. let on = at.end_line m texts lines c.args.self.now.walk program place text more c.requires.fits c.requires.last in (λ h. (on.0 h).1, λ h. on.1 (is, h)))
-    (c.before_ends.ensures texts lines)
+    (c.before_ends.ensures m texts lines c.requires.fits.is_partial c.instances.ensures.value (omega arith))
 
 pub returns-else-says : goal.returns-else-says
 returns-else-says g c = λ texts lines.
