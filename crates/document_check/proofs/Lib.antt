@@ -6,3 +6,4 @@ pub mod Told
 pub mod Completing
 pub mod Starting
 pub mod Marking
+pub mod Verdicts

@@ -1,4 +1,5 @@
 pub mod Documents
+pub mod Files
 pub mod Remaining
 pub mod Fronts
 pub mod Standing

@@ -2,6 +2,7 @@
 #![tactic(auto)]
 
 mod checker;
+mod file;
 mod front;
 mod progress;
 mod reading;
@@ -9,3 +10,5 @@ mod said;
 mod stage;
 
 pub use checker::Checker;
+pub use file::check_file;
+pub use piece_reading::ThroughRefusal as DocumentRefusal;

@@ -1,4 +1,4 @@
-ghost use Rattle.std.specs.Prelude.{◌<◌, length, OnOk, IfErr};
+ghost use Rattle.std.specs.Prelude.{◌≡◌, ◌<◌, length, OnOk, IfErr};
 ghost use Rattle.bfgp_outside.specs.Shelf.{Told, CountsFaults, GoesOn, Asks};
 ghost use Rattle.bfgp_outside.specs.Whole.{whole_of};
 ghost use Rattle.piece_reading.specs.Through.{TookFile, RefusesAs, fault_told};
@@ -48,6 +48,7 @@ pub fn read_through<T: Taker, S: Shelf>(
     limit: u64,
     taker: &mut T,
 ) -> Result<(), ThroughRefusal>
+    ensures asked { T.asked taker.new ≡ T.asked taker.old }
     ensures ok { OnOk result (TookFile T.stands_for taker.old taker.new (S.files shelf.old) name.now limit) }
     ensures refused { IfErr result (λ refusal.
         Told (S.files shelf.old) name.now (λ held. RefusesAs refusal (whole_of held limit))) }
@@ -68,6 +69,7 @@ fn read_pieces<T: Taker, S: Shelf>(
     piece: &mut [u8],
 ) -> Result<(), ThroughRefusal>
     requires room { 0 < length piece.old }
+    ensures asked { T.asked taker.new ≡ T.asked taker.old }
     ensures ok { OnOk result (TookFile T.stands_for taker.old taker.new (S.files shelf.old) name.now limit) }
     ensures refused { IfErr result (λ refusal.
         Told (S.files shelf.old) name.now (λ held. RefusesAs refusal (whole_of held limit))) }
