@@ -87,7 +87,7 @@ module _ {C : Type 0} (m : Semantics C) (texts : List (List ℕ)) (lines : ℕ) 
       record {
         fits = subst (IsFromOneTo MAX_LINES) same (fits.asked.0, omega (arith, fits.asked.1, fits.in_range.1));
         expects = λ more. let on = trees_done m texts lines (outcomes.Program n) size more all in
-        (λ h. subst (λ (k : ℕ). ProgramToCome m texts k more) same (on.0 h), λ h. on.1 (subst (λ (k : ℕ). ProgramToCome m texts k more) (sym same) h));
+            (λ h. subst (λ (k : ℕ). ProgramToCome m texts k more) same (on.0 h), λ h. on.1 (subst (λ (k : ℕ). ProgramToCome m texts k more) (sym same) h));
       }
   program_next outcomes.Nothing size found fits last is = cc is
   program_next (outcomes.SpentExpansions n) size found fits last is = cc is
@@ -170,8 +170,8 @@ module _ {C : Type 0} (m : Semantics C) (texts : List (List ℕ)) (lines : ℕ) 
       let count : length (with_line program line instr) ≡ length program = length-set program line (Some instr) in
       let more_read : take (line + 1) (with_line program line instr) ≡ before ++ Some instr ∷ [] = one_more_instr program line (line + 1) instr refl it.within in
       let only : (other : Instr) → IsInstr m.ops (length program) (length before) other → text ≡ instr_text texts other → other ≡ instr = λ other also says.
-          one_instr texts (length program) line text other instr names it.short it.within
-          (subst (λ (n : ℕ). IsInstr n (length program) line other) (sym ops) (subst (λ (n : ℕ). IsInstr m.ops (length program) n other) at also)) fits (sym says) is in
+      one_instr texts (length program) line text other instr names it.short it.within
+      (subst (λ (n : ℕ). IsInstr n (length program) line other) (sym ops) (subst (λ (n : ℕ). IsInstr m.ops (length program) n other) at also)) fits (sym says) is in
       record {
         fits = one_more m.ops program line instr it inner (subst (λ (n : ℕ). IsInstr n (length program) line instr) ops fits);
         expects = λ more.

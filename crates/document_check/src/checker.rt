@@ -57,7 +57,7 @@ impl<'a, M: Machine> Checker<'a, M> {
     /// Takes the next piece of the document, however it is cut. Runs are made at the meter.
     pub fn take(&mut self, piece: &[u8], meter: &mut M::Meter)
         ensures asked { KeepsAsked self.old self.new }
-        ensures stands { (bytes : Sequence ℕ) → 
+        ensures stands { (bytes : Sequence ℕ) →
             StandsFor (M.semantics self.old.machine) self.old bytes → StandsFor (M.semantics self.old.machine) self.new (bytes ++ piece.now) }
     {
         self.reading.take(self.machine, self.names, piece, meter);

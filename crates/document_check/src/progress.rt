@@ -249,12 +249,7 @@ impl<C: Drop> Progress<C> {
     }
 
     // What comes after the line that begins a program of so many lines.
-    fn after_program<M: Machine<Cfg = C>>(
-        &mut self,
-        machine: &M,
-        size: u8,
-        line: &[u8],
-    ) -> Stage
+    fn after_program<M: Machine<Cfg = C>>(&mut self, machine: &M, size: u8, line: &[u8]) -> Stage
         requires { IsFromOneTo MAX_LINES size }
         ensures walk { self.new.walk ≡ self.old.walk }
         ensures remains { (texts : Sequence (Sequence ℕ)) (lines : ℕ) → Remains (M.semantics machine.now) texts lines

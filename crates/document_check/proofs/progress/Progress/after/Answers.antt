@@ -83,4 +83,3 @@ returns-in-End-clause-remains g c =
     let texts = c.args.names.now in
     at_stage m texts c.args.lines c.args.self.now.walk c.args.self.now.walk c.args.self.now.program c.args.self.now.program c.args.self.now.stage stages.End c.args.line.now c.after_end.result c.in-End.is
     (c.after_end.ensures m texts c.args.lines)
-

@@ -25,7 +25,7 @@ returns-then-not-ends-clause-remains g c = λ texts lines.
     let some = c.in-Some.ensures.some in
     let small : t < 2 ^ 64 = omega (arith, c.ranges.t.fits) in
     let only : (other : ℕ) → other ≤ MAX_STEPS → c.args.line.now ≡ codes "ends" ++ then_number t ++ then_number other → other ≡ steps = λ other few says.
-        (one_ends t t other steps small small (omega (arith, few)) (omega (arith, some.0)) (sym says ∙ some.1)).1 in
+    (one_ends t t other steps small small (omega (arith, few)) (omega (arith, some.0)) (sym says ∙ some.1)).1 in
     at.says_not m texts lines c.ends.new.self self.program (λ more. EndsToCome m self.program t (c.args.line.now ∷ more)) (λ more. EndsToCome m self.program (t + 1) more)
     (λ stood. true≢false (sym stood ∙ c.if-not-ends.true))
     (λ more. ends_on m texts lines self.program t steps c.ends.result c.args.line.now more c.requires.fits.1 some.0 some.1 only c.ends.ensures.ends)
@@ -39,7 +39,7 @@ returns-clause-remains g c = λ texts lines.
     let some = c.in-Some.ensures.some in
     let small : t < 2 ^ 64 = omega (arith, c.ranges.t.fits) in
     let only : (other : ℕ) → other ≤ MAX_STEPS → c.args.line.now ≡ codes "ends" ++ then_number t ++ then_number other → other ≡ steps = λ other few says.
-        (one_ends t t other steps small small (omega (arith, few)) (omega (arith, some.0)) (sym says ∙ some.1)).1 in
+    (one_ends t t other steps small small (omega (arith, few)) (omega (arith, some.0)) (sym says ∙ some.1)).1 in
     at.remains_on m texts lines c.ends.new.self self.program (λ more. EndsToCome m self.program t (c.args.line.now ∷ more)) (λ more. EndsToCome m self.program (t + 1) more) c.before_ends.result
     (λ more.
     let on = ends_on m texts lines self.program t steps c.ends.result c.args.line.now more c.requires.fits.1 some.0 some.1 only c.ends.ensures.ends in
