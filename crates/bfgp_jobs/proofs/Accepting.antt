@@ -37,7 +37,7 @@ module _ (files : Files) (job : SynthJob) (reply : Reply) (known : Answered file
       subst (λ (text : List ℕ). IsAcceptedDocument parts job.bounds.lines text) (sym (ap (λ (r : Reply). r.text) known.is)) (record {
         answer = known.found;
         says = document_says files job reply known;
-        accepted = answer_accepted files job reply known;
+        is_accepted = answer_accepted files job reply known;
       })
 
   -- it is due that a check of it accepts

@@ -424,7 +424,7 @@ module _ (files : Files) (job : CheckJob) (poses : PosesCheck job files) (are : 
     poses = poses;
     is_accepted = is;
     only = λ other says_too. one_document (operation_texts poses.posed.task job.pointers) poses.bytes other is.answer named says_too is.says;
-    shows = shows poses.posed.task poses.posed.instances job.pointers job.lines are is.answer is.accepted is.answer.outcome refl;
+    shows = shows poses.posed.task poses.posed.instances job.pointers job.lines are is.answer is.is_accepted is.answer.outcome refl;
   }
   document_shows _ (rejected none) done = absurd (cc)
 

@@ -11,10 +11,7 @@ use Rattle.instance_report.specs.Report.{IsReport}
 use Rattle.refutation_tree.specs.declared.evidence.Answer.{Answer}
 use Rattle.refutation_tree.specs.declared.evidence.Outcome.{Outcome}
 use Rattle.refutation_tree.specs.declared.evidence.Outcome.TheVariants as outcomes
-use Rattle.refutation_tree.specs.Accepted.{IsAccepted}
-use Rattle.pointer_symmetry.specs.Twins.{twins}
 use Rattle.answer_writer.specs.Document.{document}
-use Rattle.answer_reader.specs.Reading.{IsDocument}
 use Rattle.search_bounds.specs.declared.bounds.Bounds.{Bounds}
 use Rattle.synthesis.specs.BestFirst.{IsBestFirstAnswer}
 use Rattle.family_gen.specs.Families.{family_name, family_texts, pointers_of, bounds_of}
@@ -28,6 +25,7 @@ use Rattle.command_words.specs.declared.job.GenJob.{GenJob}
 use Rattle.command_words.specs.Words.{JobOf, usage_text}
 use Rattle.input_reading.specs.Steps.{◌>>=◌}
 use Rattle.input_reading.specs.Inputs.{file_due, machine_due, machine_of_texts_due, program_due}
+use Rattle.document_check.specs.Documents.{IsAcceptedDocument as IsAcceptedFor}
 use Rattle.bfgp_jobs.specs.declared.check.TheConstants.{MAX_DOCUMENT_BYTES}
 use Rattle.bfgp_jobs.specs.declared.status.Status.{Status}
 use Rattle.bfgp_jobs.specs.declared.status.Status.TheVariants.{Done, No, Usage, Input, SpentExpansions, SpentRun}
@@ -52,10 +50,8 @@ synth_due files job = do
   answer_due machine job.bounds
 
 -- the bytes are the document of an answer that is accepted for a machine and a number of lines; twins may be passed over
-pub record IsAcceptedDocument (machine : MachineParts) (lines : ℕ) (bytes : List ℕ) : Type 0 where
-  pub answer : Answer
-  pub says : IsDocument (operation_texts machine.task machine.pointers) bytes answer
-  pub accepted : IsAccepted (meaning_of machine) (twins (meaning_of machine)) lines answer
+abbrev pub IsAcceptedDocument : MachineParts → ℕ → List ℕ → Type 0
+IsAcceptedDocument machine lines bytes = IsAcceptedFor (meaning_of machine) (operation_texts machine.task machine.pointers) lines bytes
 
 abbrev pub accepted_reply : Reply
 accepted_reply = record { status = Done; text = line (codes "accepted") }

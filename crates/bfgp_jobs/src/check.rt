@@ -1,29 +1,30 @@
-ghost use Rattle.std.specs.Prelude.{◌↔◌, [], ◌∷◌, ◌++◌, Ok, IfOk, IfErr, IsTrue};
+ghost use Rattle.std.specs.Prelude.{◌≡◌, [], ◌∷◌, ◌++◌, if◌then◌else◌, Err, IfOk, IfErr};
 ghost use Rattle.bfgp_outside.specs.Causes.{RoseIf};
-ghost use Rattle.bfgp_outside.specs.Shelf.{Knowing, GoesOn};
-ghost use Rattle.program_text.specs.Names.{AreNames};
-ghost use Rattle.pointer_machine.specs.Texts.{operation_texts};
+ghost use Rattle.bfgp_outside.specs.Shelf.{Knowing, GoesOn, Asks};
+ghost use Rattle.pointer_machine.specs.Machine.{meaning_of};
+ghost use Rattle.document_check.specs.Files.{IsVerdictOn};
+ghost use Rattle.document_check.specs.Standing.{StandsFor};
 ghost use Rattle.command_words.specs.Words.{IsCheckJob, names_of};
 ghost use Rattle.input_reading.specs.Asked.{AsksInTurn};
 ghost use Rattle.input_reading.specs.Steps.{Gives};
+ghost use Rattle.input_reading.specs.Inputs.{file_due};
 ghost use Rattle.input_reading.specs.Causes.{HaltCause, is_read_fault};
-ghost use Rattle.bfgp_jobs.specs.Due.{check_due, IsAcceptedDocument, VerdictDue};
+ghost use Rattle.bfgp_jobs.specs.Due.{accepted_reply, check_due, rejected_reply};
 ghost use Rattle.bfgp_jobs.specs.Answers.{IsAnswerStatus, IsSpent};
 
 use crate::reply::Reply;
 use crate::status::Status;
-use answer_reader::{AnswerRefusal, read_answer};
 use bfgp_outside::Shelf;
 use command_words::CheckJob;
+use document_check::{Checker, DocumentRefusal, check_file};
 use flag_rules::{OutOfMemory, Text};
-use input_reading::{Halt, machine_for, read_input};
+use input_reading::{Fault, Halt, machine_for, tell};
 use pointer_machine::{Meter, PointerMachine};
 use program_text::Names;
-use refutation_check::accepts;
 use std::alloc::Global;
 
 /// The greatest number of bytes of an answer document that `check` reads.
-pub const MAX_DOCUMENT_BYTES: u64 = 67_108_864;
+pub const MAX_DOCUMENT_BYTES: u64 = 4_294_967_296;
 
 /// What is written of a document that is accepted.
 const ACCEPTED: &[u8] = b"accepted\n";
@@ -44,44 +45,65 @@ pub(crate) fn check<S: Shelf>(alloc: Global, shelf: &mut S, job: &CheckJob) -> R
         (names_of job.now.inputs ++ job.now.answer ∷ []) }
 {
     let machine = machine_for(alloc, shelf, &job.inputs, job.pointers)?;
-    let bytes = read_input(alloc, shelf, job.answer.as_slice(), MAX_DOCUMENT_BYTES)?;
-    Ok(verdict(alloc, &machine, job.lines, bytes.as_slice())?)
+    let names = Names::build(alloc, machine.op_texts(alloc)?)?;
+    let verdicts = Verdicts::new(alloc)?;
+    let checker = Checker::start(alloc, &machine, &names, job.lines)?;
+    let accepted = is_accepted_file(alloc, shelf, job.answer.as_slice(), checker)?;
+    Ok(verdicts.reply(accepted))
 }
 
-// The reply that says whether bytes are an accepted document.
-fn verdict(
+// Whether the answer file of a name is accepted. It takes no memory, but to tell a fault of the file.
+fn is_accepted_file<S: Shelf>(
     alloc: Global,
-    machine: &PointerMachine,
-    lines: u8,
-    bytes: &[u8],
-) -> Result<Reply, OutOfMemory>
-    requires { AreNames (operation_texts machine.now.task machine.now.pointers) }
-    ensures due { IfOk result (λ reply. VerdictDue machine.now lines bytes.now (Ok reply)) }
-    ensures verdict { IfOk result (λ reply. IsAnswerStatus reply.status) }
-    ensures unspent { IfOk result (λ reply. IsSpent reply.status → ⊥) }
+    shelf: &mut S,
+    name: &[u8],
+    checker: Checker<'_, PointerMachine>,
+) -> Result<bool, Halt>
+    requires { StandsFor (meaning_of checker.machine) checker [] }
+    ensures verdict { IfOk result (λ accepted. IsVerdictOn (meaning_of checker.entry.machine) checker.entry.texts
+        checker.entry.reading.lines (S.files shelf.old) name.now MAX_DOCUMENT_BYTES accepted) }
+    ensures due { IfErr result (λ halt. Knowing (S.files shelf.old)
+        (λ files. Gives (file_due files MAX_DOCUMENT_BYTES name.now) (Err halt))) }
+    ensures cause { IfErr result (HaltCause (S.absences shelf.old) (S.absences shelf.new)) }
+    ensures reads { RoseIf (is_read_fault result) (S.faults shelf.old) (S.faults shelf.new) }
+    ensures goes_on { GoesOn S.files S.faults S.absences shelf.old shelf.new }
+    ensures asks { Asks (S.asked shelf.old) (S.asked shelf.new) name.now }
 {
-    if is_accepted_document(alloc, machine, lines, bytes)? {
-        Ok(Reply::of_text(Status::Done, Text::of(alloc, ACCEPTED)?))
-    } else {
-        Ok(Reply::of_text(Status::No, Text::of(alloc, REJECTED)?))
+    match check_file(checker, shelf, name, MAX_DOCUMENT_BYTES, &mut Meter::zero()) {
+        Ok(accepted) => Ok(accepted),
+        Err(DocumentRefusal::Absent) => Err(tell(alloc, name, Fault::Absent)),
+        Err(DocumentRefusal::TooLong) => Err(tell(alloc, name, Fault::TooLong)),
+        Err(DocumentRefusal::Failed) => Err(Halt::ReadFault),
     }
 }
 
-// Whether bytes are the document of an answer that is accepted.
-fn is_accepted_document(
-    alloc: Global,
-    machine: &PointerMachine,
-    lines: u8,
-    bytes: &[u8],
-) -> Result<bool, OutOfMemory>
-    requires { AreNames (operation_texts machine.now.task machine.now.pointers) }
-    ensures { IfOk result (λ accepted. IsTrue accepted ↔ IsAcceptedDocument machine.now lines bytes.now) }
-{
-    let texts = machine.op_texts(alloc)?;
-    let names = Names::build(alloc, texts)?;
-    match read_answer(alloc, bytes, &names) {
-        Ok(answer) => accepts(alloc, machine, lines, &answer, &mut Meter::zero()),
-        Err(AnswerRefusal::Line(_)) => Ok(false),
-        Err(AnswerRefusal::OutOfMemory) => Err(OutOfMemory),
+// What is written of a document, made before it is read.
+#[derive(Drop)]
+struct Verdicts {
+    accepted: Text,
+    rejected: Text,
+}
+
+impl Verdicts {
+    fn new(alloc: Global) -> Result<Verdicts, OutOfMemory>
+        ensures accepted { IfOk result (λ verdicts. verdicts.accepted ≡ accepted_reply.text) }
+        ensures rejected { IfOk result (λ verdicts. verdicts.rejected ≡ rejected_reply.text) }
+    {
+        let accepted = Text::of(alloc, ACCEPTED)?;
+        let rejected = Text::of(alloc, REJECTED)?;
+        Ok(Verdicts { accepted, rejected })
+    }
+
+    // The reply to whether a document is accepted.
+    fn reply(self, accepted: bool) -> Reply
+        requires accepted { self.accepted ≡ accepted_reply.text }
+        requires rejected { self.rejected ≡ rejected_reply.text }
+        ensures { result ≡ (if accepted then accepted_reply else rejected_reply) }
+    {
+        if accepted {
+            Reply::of_text(Status::Done, self.accepted)
+        } else {
+            Reply::of_text(Status::No, self.rejected)
+        }
     }
 }

@@ -19,3 +19,4 @@ pub use file_reading::read_input;
 pub use halt::Halt;
 pub use machine::{machine_for, machine_of_texts};
 pub use program_reading::program_of;
+pub use telling::tell;

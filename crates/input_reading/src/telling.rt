@@ -7,8 +7,8 @@ use crate::halt::Halt;
 use flag_rules::{OutOfMemory, Text};
 use std::alloc::Global;
 
-/// Ends a job with the line that tells a fault of the file with this name.
-pub(crate) fn tell(alloc: Global, name: &[u8], fault: Fault) -> Halt
+/// Ends a job with the line that tells a fault of the file with this name, or for want of memory.
+pub fn tell(alloc: Global, name: &[u8], fault: Fault) -> Halt
     ensures { IsTelling name.now fault result }
 {
     match fault_line(alloc, name, fault) {
