@@ -43,7 +43,7 @@ pub record IsVerdictOf (lines instances : ℕ) (text : List ℕ) (outcome : Outc
   pub size : IsFromOneTo lines (last_size lines outcome)
   pub instance : NamesInstance instances outcome
 
--- the text is a line of a document of the grammar, where these are the texts of the operations
+-- the text is one of these; each line of a document of the grammar is, where these are the texts of the operations
 pub data IsLine (texts : List (List ℕ)) (text : List ℕ) : Type 0 where
   is_form : text ≡ codes "bfgp answer 1" → IsLine texts text
   is_pointers : (count : ℕ) → IsFromOneTo MAX_POINTERS count → text ≡ codes "pointers" ++ then_number count → IsLine texts text

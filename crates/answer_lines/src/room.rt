@@ -3,8 +3,8 @@ ghost use Rattle.answer_lines.specs.Lines.{IsLine};
 
 use program_text::Names;
 
-/// How many bytes a line of a document has at most, if it is not the text of an operation: as many as the mark `l` and three
-/// numbers of 64 bits, each after a space.
+/// An upper bound on the bytes of a line of a document that is not the text of an operation: a word and three numbers of 64 bits,
+/// each after a space. Lines of documents are shorter still.
 pub const MAX_PLAIN_LINE: usize = 64;
 
 /// How many bytes a line of a document may have, where operations have these names.

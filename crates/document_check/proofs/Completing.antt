@@ -13,9 +13,9 @@ use Rattle.document_check.specs.declared.stage.Stage.TheVariants as stages
 use Rattle.document_check.specs.declared.progress.Progress.{Progress}
 use Rattle.document_check.specs.declared.reading.Reading.{Reading}
 use Rattle.document_check.specs.Fronts.{LineFront}
-use Rattle.document_check.specs.Standing.{Completes, Expects, ExpectsAt, FitsRoom}
+use Rattle.document_check.specs.Standing.{CompletesReading, Expects, ExpectsAt, FitsRoom}
 use Rattle.document_check.specs.Inner.Steps.{Steps}
-use Rattle.document_check.specs.Inner.Pieces.{GoesOn}
+use Rattle.document_check.specs.Inner.Pieces.{Advances}
 use Rattle.document_check.proofs.Steps.{no_heading, no_trees, no_marks, no_program, no_instrs, no_ends, no_last}
 use Rattle.program_model.specs.Program.{Program}
 use Rattle.refutation_check.specs.Walking.{pending}
@@ -61,7 +61,7 @@ module _ {C : Type 0} (m : Semantics C) (texts : List (List ℕ)) where
 
   -- a line that has room came to its end
   pub line_ends : (old new : Reading C) (part : List ℕ) → is_free_of 10 old.front.bytes ≡ true → is_free_of 10 part ≡ true → new.lines ≡ old.lines → new.front.bytes ≡ [] → new.front.room ≡ old.front.room
-      → length (old.front.bytes ++ part) ≤ old.front.room → Steps m texts old.lines old.progress (old.front.bytes ++ part) new.progress → GoesOn m texts old (line part) new
+      → length (old.front.bytes ++ part) ≤ old.front.room → Steps m texts old.lines old.progress (old.front.bytes ++ part) new.progress → Advances m texts old (line part) new
   line_ends old new part free part_free lines none room short steps = λ more.
       let text = old.front.bytes ++ part in
       let text_free = free-append 10 old.front.bytes part free part_free in
@@ -87,7 +87,7 @@ module _ {C : Type 0} (m : Semantics C) (texts : List (List ℕ)) where
       )
 
   -- more of a line came
-  pub front_grows : (old new : Reading C) (part : List ℕ) → new.lines ≡ old.lines → new.progress ≡ old.progress → new.front.bytes ≡ old.front.bytes ++ part → new.front.room ≡ old.front.room → GoesOn m texts old part new
+  pub front_grows : (old new : Reading C) (part : List ℕ) → new.lines ≡ old.lines → new.progress ≡ old.progress → new.front.bytes ≡ old.front.bytes ++ part → new.front.room ≡ old.front.room → Advances m texts old part new
   front_grows old new part lines progress grown room = λ more.
       let bytes : old.front.bytes ++ (part ++ more) ≡ new.front.bytes ++ more = sym (append_assoc old.front.bytes part more) ∙ ap (λ (l : List ℕ). l ++ more) (sym grown) in (
         λ h. record {
@@ -104,15 +104,15 @@ module _ {C : Type 0} (m : Semantics C) (texts : List (List ℕ)) where
         },
       )
 
-  rejected_completes : (reading : Reading C) (more : List ℕ) → reading.progress.stage ≡ stages.Rejected → Completes m texts reading more → ⊥
+  rejected_completes : (reading : Reading C) (more : List ℕ) → reading.progress.stage ≡ stages.Rejected → CompletesReading m texts reading more → ⊥
   rejected_completes reading more is h = subst (λ (s : Stage). ExpectsAt m texts reading.lines reading.progress.walk reading.progress.program s h.rest) is h.expected
 
   -- what is rejected stays so
-  pub stays_rejected : (old new : Reading C) (piece : List ℕ) → old.progress.stage ≡ stages.Rejected → new.progress.stage ≡ stages.Rejected → GoesOn m texts old piece new
+  pub stays_rejected : (old new : Reading C) (piece : List ℕ) → old.progress.stage ≡ stages.Rejected → new.progress.stage ≡ stages.Rejected → Advances m texts old piece new
   stays_rejected old new piece was is = λ more. (λ h. absurd (rejected_completes old (piece ++ more) was h), λ h. absurd (rejected_completes new more is h))
 
   -- a line that has no room came to its end
-  pub line_too_long : (old new : Reading C) (part : List ℕ) → is_free_of 10 old.front.bytes ≡ true → is_free_of 10 part ≡ true → old.front.room < length old.front.bytes + length part → new.progress.stage ≡ stages.Rejected → GoesOn m texts old (line part) new
+  pub line_too_long : (old new : Reading C) (part : List ℕ) → is_free_of 10 old.front.bytes ≡ true → is_free_of 10 part ≡ true → old.front.room < length old.front.bytes + length part → new.progress.stage ≡ stages.Rejected → Advances m texts old (line part) new
   line_too_long old new part free part_free long is = λ more. (
     λ h.
         let count = length-append old.front.bytes part in
@@ -122,7 +122,7 @@ module _ {C : Type 0} (m : Semantics C) (texts : List (List ℕ)) where
   )
 
   -- more of a line came than there is room for
-  pub front_too_long : (old new : Reading C) (part : List ℕ) → is_free_of 10 old.front.bytes ≡ true → is_free_of 10 part ≡ true → old.front.room < length old.front.bytes + length part → new.progress.stage ≡ stages.Rejected → GoesOn m texts old part new
+  pub front_too_long : (old new : Reading C) (part : List ℕ) → is_free_of 10 old.front.bytes ≡ true → is_free_of 10 part ≡ true → old.front.room < length old.front.bytes + length part → new.progress.stage ≡ stages.Rejected → Advances m texts old part new
   front_too_long old new part free part_free long is = λ more. (
     λ h.
         let count = length-append old.front.bytes part in
@@ -130,23 +130,23 @@ module _ {C : Type 0} (m : Semantics C) (texts : List (List ℕ)) where
     λ h. absurd (rejected_completes new more is h),
   )
 
-  pub goes_on : (one two three : Reading C) (x y : List ℕ) → GoesOn m texts one x two → GoesOn m texts two y three → GoesOn m texts one (x ++ y) three
+  pub goes_on : (one two three : Reading C) (x y : List ℕ) → Advances m texts one x two → Advances m texts two y three → Advances m texts one (x ++ y) three
   goes_on one two three x y first second = λ more.
       let bytes = append_assoc x y more in (
-        λ h. (second more).0 ((first (y ++ more)).0 (subst (Completes m texts one) bytes h)),
-        λ h. subst (Completes m texts one) (sym bytes) ((first (y ++ more)).1 ((second more).1 h)),
+        λ h. (second more).0 ((first (y ++ more)).0 (subst (CompletesReading m texts one) bytes h)),
+        λ h. subst (CompletesReading m texts one) (sym bytes) ((first (y ++ more)).1 ((second more).1 h)),
       )
 
-  pub nothing_taken : (reading : Reading C) → GoesOn m texts reading [] reading
+  pub nothing_taken : (reading : Reading C) → Advances m texts reading [] reading
   nothing_taken reading = λ more. (λ h. h, λ h. h)
 
   -- of a piece all but the rest was taken
   pub record IsTaken (old new : Reading C) (piece rest : List ℕ) : Type 0 where
     pub before : List ℕ
     pub cut : piece ≡ before ++ rest
-    pub goes_on : GoesOn m texts old before new
+    pub goes_on : Advances m texts old before new
 
-  pub line_taken : (old now new : Reading C) (piece rest part after : List ℕ) → IsTaken old now piece rest → rest ≡ line part ++ after → GoesOn m texts now (line part) new → IsTaken old new piece after
+  pub line_taken : (old now new : Reading C) (piece rest part after : List ℕ) → IsTaken old now piece rest → rest ≡ line part ++ after → Advances m texts now (line part) new → IsTaken old new piece after
   line_taken old now new piece rest part after taken cut on = record {
     before = taken.before ++ line part;
     cut = taken.cut ∙ ap (λ (l : List ℕ). taken.before ++ l) cut ∙ sym (append_assoc taken.before (line part) after);
@@ -175,7 +175,7 @@ module _ {C : Type 0} (m : Semantics C) (texts : List (List ℕ)) where
   no_front front (text ∷ rest) free whole = absurd (no_line front text (lines_of rest) free (sym (append-nil front) ∙ whole))
 
   -- a reading is complete where the document is whole, and no front of a further line came
-  pub is_complete : (reading : Reading C) → is_free_of 10 reading.front.bytes ≡ true → Completes m texts reading [] ↔ ((reading.progress.stage ≡ stages.Nothing) × (reading.front.bytes ≡ []))
+  pub is_complete : (reading : Reading C) → is_free_of 10 reading.front.bytes ≡ true → CompletesReading m texts reading [] ↔ ((reading.progress.stage ≡ stages.Nothing) × (reading.front.bytes ≡ []))
   is_complete reading free = (
     λ h.
         let none = no_front reading.front.bytes h.rest free h.whole in

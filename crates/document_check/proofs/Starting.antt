@@ -16,13 +16,13 @@ use Rattle.document_check.specs.declared.stage.Stage.TheVariants as stages
 use Rattle.document_check.specs.declared.reading.Reading.{Reading}
 use Rattle.document_check.specs.Fronts.{LineFront}
 use Rattle.document_check.specs.Documents.{IsAcceptedDocument}
-use Rattle.document_check.specs.Standing.{Completes, Expects, ExpectsAt, FitsRoom}
+use Rattle.document_check.specs.Standing.{CompletesReading, Expects, ExpectsAt, FitsRoom}
 use Rattle.document_check.proofs.Whole.{to_come, come}
 
 module _ {C : Type 0} (m : Semantics C) (texts : List (List ℕ)) where
   pub starts : (reading : Reading C) → AreNames texts → length texts ≡ m.ops → IsFromOneTo MAX_POINTERS m.pointers → IsFromOneTo MAX_INSTANCES m.instances
       → reading.progress.stage ≡ stages.Form → reading.front.bytes ≡ [] → ((text : List ℕ) → IsLine texts text → length text ≤ reading.front.room)
-      → (more : List ℕ) → IsAcceptedDocument m texts reading.lines more ↔ Completes m texts reading more
+      → (more : List ℕ) → IsAcceptedDocument m texts reading.lines more ↔ CompletesReading m texts reading more
   starts reading names ops pointers instances form none room more = (
     λ h.
         let a = h.answer in

@@ -53,7 +53,7 @@ FoundToCome m texts outcomes.Nothing more = LastLine more
 FoundToCome m texts (outcomes.SpentExpansions size) more = LastLine more
 FoundToCome m texts (outcomes.SpentRun size t) more = LastLine more
 
--- the trees of the sizes after one, up to the last that has a tree, and what follows them
+-- the trees of the sizes above a given one, up to the last that has a tree, and what follows them
 pub record TreesToCome {C : Type 0} (m : Semantics C) (texts : List (List ℕ)) (lines : ℕ) (outcome : Outcome) (size : ℕ) (more : List (List ℕ)) : Type 0 where
   pub trees : List Tree
   pub sizes : map (λ (tree : Tree). tree.size) trees ≡ range_with_len (size + 1) (last_size lines outcome - size)
@@ -84,7 +84,7 @@ pub record VerdictToCome {C : Type 0} (m : Semantics C) (texts : List (List ℕ)
 abbrev pub heading_lines : {C : Type 0} → Semantics C → ℕ → List (List ℕ)
 heading_lines m lines = codes "bfgp answer 1" ∷ (codes "pointers" ++ then_number m.pointers) ∷ (codes "lines" ++ then_number lines) ∷ (codes "instances" ++ then_number m.instances) ∷ []
 
--- the lines before the verdict but for so many, and what follows them
+-- the lines before the verdict without the first so many, and what follows them
 pub record HeadingToCome {C : Type 0} (m : Semantics C) (texts : List (List ℕ)) (lines count : ℕ) (more : List (List ℕ)) : Type 0 where
   pub in_range : IsFromOneTo MAX_LINES lines
   pub after : List (List ℕ)

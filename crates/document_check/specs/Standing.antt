@@ -67,7 +67,7 @@ FitsStage m lines walk program stages.End = Unit {0}
 FitsStage m lines walk program stages.Nothing = Unit {0}
 FitsStage m lines walk program stages.Rejected = Unit {0}
 
--- a progress over the partial programs of a machine
+-- the walk is one of the machine, and what is held fits the line that comes next
 pub record IsProgress {C : Type 0} (m : Semantics C) (belongs : ℕ → C → Type 0) (lines : ℕ) (progress : Progress C) : Type 0 where
   pub walk : IsWalk m belongs progress.walk
   pub stage : FitsStage m lines progress.walk progress.program progress.stage
@@ -78,7 +78,7 @@ pub record FitsRoom (room : ℕ) (text : List ℕ) : Type 0 where
   pub short : length text ≤ room
 
 -- after the front of a line that came, these bytes are the rest of an accepted document
-pub record Completes {C : Type 0} (m : Semantics C) (texts : List (List ℕ)) (reading : Reading C) (more : List ℕ) : Type 0 where
+pub record CompletesReading {C : Type 0} (m : Semantics C) (texts : List (List ℕ)) (reading : Reading C) (more : List ℕ) : Type 0 where
   pub rest : List (List ℕ)
   pub whole : reading.front.bytes ++ more ≡ lines_of rest
   pub each : All (FitsRoom reading.front.room) rest
@@ -90,19 +90,20 @@ pub record IsReading {C : Type 0} (m : Semantics C) (belongs : ℕ → C → Typ
   pub progress : IsProgress m belongs reading.lines reading.progress
   pub free : IsTrue (is_free_of 10 reading.front.bytes)
 
--- what a checker has: a machine, the texts of its operations, and how far a document was read
+-- what a checker has: a machine, the texts of its operations, how many lines were asked for, and how far a document was read
 pub record Checking (M C : Type 0) : Type 0 where
   pub machine : M
   pub texts : List (List ℕ)
+  pub lines : ℕ
   pub reading : Reading C
 
--- A checker of a machine that means this stands for the bytes that it took: whatever follows them, the whole is an accepted document
--- exactly where that completes what was read.
+-- A checker of a machine that means this stands for bytes where, whatever follows them, the whole is an accepted document exactly where
+-- that completes what was read. It stands for the bytes that it took, and for others that nothing after them can tell apart from those.
 abbrev pub StandsFor : {M C : Type 0} → Semantics C → Checking M C → List ℕ → Type 0
-StandsFor m checker bytes = (more : List ℕ) → IsAcceptedDocument m checker.texts checker.reading.lines (bytes ++ more) ↔ Completes m checker.texts checker.reading more
+StandsFor m checker bytes = (more : List ℕ) → IsAcceptedDocument m checker.texts checker.lines (bytes ++ more) ↔ CompletesReading m checker.texts checker.reading more
 
 -- the machine, the texts and the lines that were asked for are the same
 pub record KeepsAsked {M C : Type 0} (old new : Checking M C) : Type 0 where
   pub machine : new.machine ≡ old.machine
   pub texts : new.texts ≡ old.texts
-  pub lines : new.reading.lines ≡ old.reading.lines
+  pub lines : new.lines ≡ old.lines

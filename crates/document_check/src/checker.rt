@@ -10,8 +10,8 @@ use program_text::Names;
 use std::alloc::Global;
 use std::marker::Model;
 
-/// Checks the document of an answer that comes in pieces, in memory that does not grow with it. It does not keep the bytes:
-/// contracts see for which bytes it stands.
+/// Checks the document of an answer that comes in pieces, in memory that does not grow with it. It keeps no bytes but those of a
+/// line that has not ended: contracts see for which bytes it stands.
 #[derive(Drop)]
 pub struct Checker<'a, M: Machine> {
     machine: &'a M,
@@ -26,7 +26,7 @@ impl<'a, M: Machine> Model for Checker<'a, M> {
 
     ghost Value = { Checking M M.Cfg };
 
-    ghost view = { λ c. record { machine = c.machine.now; texts = c.names.now; reading = c.reading } };
+    ghost view = { λ c. record { machine = c.machine.now; texts = c.names.now; lines = c.reading.lines; reading = c.reading } };
 
     ghost invariant = { λ c. (length c.names.now ≡ (M.semantics c.machine.now).ops)
         × IsReading (M.semantics c.machine.now) (M.belongs c.machine.now) c.names.now c.reading };
@@ -44,7 +44,7 @@ impl<'a, M: Machine> Checker<'a, M> {
         requires { length names.now ≡ (M.semantics machine.now).ops }
         ensures machine { IfOk result (λ checker. checker.machine ≡ machine.now) }
         ensures texts { IfOk result (λ checker. checker.texts ≡ names.now) }
-        ensures lines { IfOk result (λ checker. checker.reading.lines ≡ lines) }
+        ensures lines { IfOk result (λ checker. checker.lines ≡ lines) }
         ensures stands { IfOk result (λ checker. StandsFor (M.semantics machine.now) checker []) }
     {
         Ok(Checker {
@@ -54,7 +54,7 @@ impl<'a, M: Machine> Checker<'a, M> {
         })
     }
 
-    /// Takes the next piece of the document, however it is cut. Runs are made at the meter.
+    /// Takes the next piece of the document, however it is cut. The operations of its runs are counted at the meter.
     pub fn take(&mut self, piece: &[u8], meter: &mut M::Meter)
         ensures asked { KeepsAsked self.old self.new }
         ensures stands { (bytes : Sequence ℕ) →
@@ -63,10 +63,11 @@ impl<'a, M: Machine> Checker<'a, M> {
         self.reading.take(self.machine, self.names, piece, meter);
     }
 
-    /// Whether the pieces that were taken are, joined, the document of an accepted answer.
+    /// Whether the pieces that were taken are, joined, the document of an accepted answer. What such a document shows is the law
+    /// [`crate::accepted_documents_hold`].
     pub fn finish(&self) -> bool
         ensures { (bytes : Sequence ℕ) → StandsFor (M.semantics self.now.machine) self.now bytes →
-            IsTrue result ↔ IsAcceptedDocument (M.semantics self.now.machine) self.now.texts self.now.reading.lines bytes }
+            IsTrue result ↔ IsAcceptedDocument (M.semantics self.now.machine) self.now.texts self.now.lines bytes }
     {
         self.reading.is_complete()
     }

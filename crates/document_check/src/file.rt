@@ -24,7 +24,7 @@ impl<'a, 'b, M: Machine> Taker for Metered<'a, 'b, M> {
 
     ghost use Rattle.document_check.specs.Standing.{StandsFor};
 
-    ghost asked = { λ metered. (metered.checker.machine, metered.checker.texts, metered.checker.reading.lines) };
+    ghost asked = { λ metered. (metered.checker.machine, metered.checker.texts, metered.checker.lines) };
 
     ghost stands_for = { λ metered bytes. StandsFor (M.semantics metered.checker.machine) metered.checker bytes };
 
@@ -33,8 +33,9 @@ impl<'a, 'b, M: Machine> Taker for Metered<'a, 'b, M> {
     }
 }
 
-/// Checks the document of a file, piece by piece, to the file's end. It takes no memory. A file of more bytes than the limit is
-/// refused.
+/// Checks the document of a file by a checker that has taken nothing yet. The file is read piece by piece to its end, also after the
+/// verdict is known. It takes no memory. A file of more bytes than the limit is refused. What an accepted document shows is the
+/// law [`crate::accepted_documents_hold`].
 pub fn check_file<M: Machine, S: Shelf>(
     checker: Checker<'_, M>,
     shelf: &mut S,
@@ -43,7 +44,7 @@ pub fn check_file<M: Machine, S: Shelf>(
     meter: &mut M::Meter,
 ) -> Result<bool, ThroughRefusal>
     requires { StandsFor (M.semantics checker.machine) checker [] }
-    ensures verdict { IfOk result (λ accepted. IsVerdictOn (M.semantics checker.entry.machine) checker.entry.texts checker.entry.reading.lines
+    ensures verdict { IfOk result (λ accepted. IsVerdictOn (M.semantics checker.entry.machine) checker.entry.texts checker.entry.lines
         (S.files shelf.old) name.now limit accepted) }
     ensures refused { IfErr result (λ refusal. Told (S.files shelf.old) name.now (λ held. RefusesAs refusal (whole_of held limit))) }
     ensures counts { CountsFaults S.faults S.absences shelf.old shelf.new (fault_told result) }

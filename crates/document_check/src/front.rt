@@ -68,7 +68,7 @@ impl Front {
         true
     }
 
-    /// None came.
+    /// Forgets the bytes that came.
     pub(crate) fn clear(&mut self)
         ensures bytes { self.new.bytes ≡ [] }
         ensures room { self.new.room ≡ self.old.room }

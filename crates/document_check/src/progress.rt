@@ -1,4 +1,4 @@
-ghost use Rattle.std.specs.Prelude.{◌≡◌, ℕ, ◌+◌, ◌≤◌, ◌∷◌, List as Sequence, length, take, IfOk, IsTrue, ◌↔◌};
+ghost use Rattle.std.specs.Prelude.{◌≡◌, ℕ, ◌+◌, ◌<◌, ◌≤◌, ◌∷◌, List as Sequence, length, take, IfOk, IsTrue, ◌↔◌};
 ghost use Rattle.program_model.specs.Semantics.{Semantics};
 ghost use Rattle.program_model.specs.Program.{IsPartial};
 ghost use Rattle.program_text.specs.Names.{AreNames};
@@ -19,8 +19,8 @@ use refutation_check::{Walk, last_size, says_refuted};
 use refutation_tree::Outcome;
 use std::alloc::Global;
 
-/// How far a document was read: which line comes next, and what the lines that follow have to fit to: the marks of the tree that
-/// is read, and the program as far as it was read.
+/// How far a document was read: which line comes next, and what the lines that follow have to fit to: the walk over the marks of
+/// the tree that is read, and the program as far as it was read; each is a stand-in before its part of the document comes.
 #[derive(Drop)]
 pub(crate) struct Progress<C: Drop> {
     stage: Stage,
@@ -302,7 +302,7 @@ impl<C: Drop> Progress<C> {
         }
     }
 
-    // What comes where the ends of the runs of the program on the instances from one on are to come, of so many.
+    // Where the end of the run on an instance comes next, or the last line where there is no such instance.
     fn before_ends(&self, t: u8, instances: u8) -> Stage
         ensures { (m : Semantics C) (texts : Sequence (Sequence ℕ)) (lines : ℕ) →
             IsPartial m.ops self.now.program → instances ≡ m.instances → t ≤ m.instances →
@@ -324,7 +324,7 @@ impl<C: Drop> Progress<C> {
         meter: &mut M::Meter,
     ) -> Stage
         requires walk { IsWalk (M.semantics machine.now) (M.belongs machine.now) self.old.walk }
-        requires fits { FitsStage (M.semantics machine.now) 0 self.old.walk self.old.program (stages.Ends t) }
+        requires fits { IsPartial (M.semantics machine.now).ops self.old.program × (t < (M.semantics machine.now).instances) }
         ensures walk { IsWalk (M.semantics machine.now) (M.belongs machine.now) self.new.walk }
         ensures remains { (texts : Sequence (Sequence ℕ)) (lines : ℕ) → Remains (M.semantics machine.now) texts lines
             self.new.walk self.new.program (λ more. EndsToCome (M.semantics machine.now) self.old.program t (line.now ∷ more)) result }

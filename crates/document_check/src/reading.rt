@@ -3,8 +3,8 @@ ghost use Rattle.program_model.specs.Semantics.{Semantics};
 ghost use Rattle.flag_rules.specs.Line.{line};
 ghost use Rattle.answer_lines.specs.Cuts.{is_free_of};
 ghost use Rattle.document_check.specs.Documents.{IsAcceptedDocument};
-ghost use Rattle.document_check.specs.Standing.{Completes, IsReading};
-ghost use Rattle.document_check.specs.Inner.Pieces.{GoesOn};
+ghost use Rattle.document_check.specs.Standing.{CompletesReading, IsReading};
+ghost use Rattle.document_check.specs.Inner.Pieces.{Advances};
 
 use crate::front::Front;
 use crate::progress::Progress;
@@ -14,7 +14,8 @@ use program_model::Machine;
 use program_text::Names;
 use std::alloc::Global;
 
-/// A document that is read, for so many lines: how far it was read, and the front of the line that comes.
+/// A document that is read, where programs of at most so many lines were asked for: how far it was read, and the front of the line
+/// that comes.
 #[derive(Drop)]
 pub(crate) struct Reading<C: Drop> {
     lines: u8,
@@ -44,8 +45,9 @@ impl<C: Drop> Reading<C> {
         ensures lines { IfOk result (λ reading. reading.lines ≡ lines) }
         ensures reading { IfOk result (λ reading. IsReading (M.semantics machine.now) (M.belongs machine.now) names.now reading) }
         ensures stands { let m = M.semantics machine.now in IfOk result
-            (λ reading. (more : Sequence ℕ) → IsAcceptedDocument m names.now lines more ↔ Completes m names.now reading more) }
+            (λ reading. (more : Sequence ℕ) → IsAcceptedDocument m names.now lines more ↔ CompletesReading m names.now reading more) }
     {
+        // their contracts give the ranges of what a heading tells
         let _pointers = machine.pointers();
         let _instances = machine.instances();
         let _count = names.count();
@@ -68,7 +70,7 @@ impl<C: Drop> Reading<C> {
         requires reading { IsReading (M.semantics machine.now) (M.belongs machine.now) names.now self.old }
         ensures lines { self.new.lines ≡ self.old.lines }
         ensures reading { IsReading (M.semantics machine.now) (M.belongs machine.now) names.now self.new }
-        ensures goes_on { GoesOn (M.semantics machine.now) names.now self.old piece.now self.new }
+        ensures goes_on { Advances (M.semantics machine.now) names.now self.old piece.now self.new }
     {
         let mut rest = piece;
         while let Some((front, after)) = first_line(rest) {
@@ -91,7 +93,7 @@ impl<C: Drop> Reading<C> {
         requires free { IsTrue (is_free_of 10 rest.now) }
         ensures lines { self.new.lines ≡ self.old.lines }
         ensures reading { IsReading (M.semantics machine.now) (M.belongs machine.now) names.now self.new }
-        ensures goes_on { GoesOn (M.semantics machine.now) names.now self.old (line rest.now) self.new }
+        ensures goes_on { Advances (M.semantics machine.now) names.now self.old (line rest.now) self.new }
     {
         if self.front.is_empty() && self.front.has_room(rest.len()) {
             self.progress
@@ -112,7 +114,7 @@ impl<C: Drop> Reading<C> {
         requires free { IsTrue (is_free_of 10 more.now) }
         ensures lines { self.new.lines ≡ self.old.lines }
         ensures reading { IsReading (M.semantics machine.now) (M.belongs machine.now) names.now self.new }
-        ensures goes_on { GoesOn (M.semantics machine.now) names.now self.old more.now self.new }
+        ensures goes_on { Advances (M.semantics machine.now) names.now self.old more.now self.new }
     {
         if !self.front.add(more) {
             self.progress.reject();
@@ -123,7 +125,7 @@ impl<C: Drop> Reading<C> {
     /// Whether nothing more has to come.
     pub(crate) fn is_complete(&self) -> bool
         ensures { (m : Semantics C) (texts : Sequence (Sequence ℕ)) → IsTrue (is_free_of 10 self.now.front.bytes) →
-            IsTrue result ↔ Completes m texts self.now [] }
+            IsTrue result ↔ CompletesReading m texts self.now [] }
     {
         self.progress.is_whole() && self.front.is_empty()
     }

@@ -9,7 +9,7 @@ pub trait Taker {
     /// What was asked of it, which no piece changes.
     ghost asked: { Self → Self.Asked };
 
-    /// The bytes that it took so far, one piece after another, stand for it. A relation, since a taker does not keep the bytes.
+    /// It stands for the bytes that it took so far, one piece after another. A relation, since a taker does not keep the bytes.
     ghost stands_for: { Self → List ℕ → Type 0 };
 
     /// Takes the next piece.

@@ -40,8 +40,7 @@ pub const PIECE_LENGTH: usize = 65_536;
 
 /// Gives a file's bytes to a taker, piece by piece, to the file's end. It takes no memory, and a read that fails is not tried again.
 ///
-/// A read of fewer bytes than were asked for is not the end; a read of none is. No byte past the limit comes to the taker. After a
-/// refusal the taker has what came before it.
+/// A read of fewer bytes than were asked for is not the end; a read of none is.
 pub fn read_through<T: Taker, S: Shelf>(
     shelf: &mut S,
     name: &[u8],

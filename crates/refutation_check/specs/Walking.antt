@@ -107,7 +107,7 @@ pub record IsRoot (ops : ℕ) (q : Program) : Type 0 where
 abbrev pub open_lines : Program → ℕ
 open_lines q = count_by is_none q
 
--- a parent further down on a path has fewer undefined lines
+-- the parent at a place of a path has few undefined lines, fewer by the place: so no path is too long
 abbrev pub NarrowDown : {C : Type 0} → List (Family C) → Type 0
 NarrowDown {C} families = (place : ℕ) (d : Family C) → place < length families → open_lines (slice_index_or families place d).parent + place < MAX_LINES
 

@@ -31,7 +31,8 @@ pub struct Walk<C: Drop> {
 }
 
 impl<C: Drop> Walk<C> {
-    /// A walk over no tree yet. It takes memory for each instance of the machine; no other call of a walk takes memory.
+    /// A walk over no tree yet. It takes memory for each instance of the machine: for a run at each place of the longest path, and for two
+    /// configurations. No other call of a walk takes memory.
     pub fn new<M: Machine<Cfg = C>>(alloc: Global, machine: &M) -> Result<Walk<C>, OutOfMemory>
         ensures walk { IfOk result (λ walk. IsWalk (M.semantics machine.now) (M.belongs machine.now) walk) }
         ensures pending { IfOk result (λ walk. pending (M.semantics machine.now) walk ≡ []) }
@@ -187,7 +188,7 @@ impl<C: Drop> Walk<C> {
         }
     }
 
-    /// Takes the next mark; tells whether it stands for the next partial program.
+    /// Takes the next mark; tells whether it stands for the next partial program. Where it does not, no marks after it make the tree stand.
     pub fn take<M: Machine<Cfg = C>>(
         &mut self,
         machine: &M,

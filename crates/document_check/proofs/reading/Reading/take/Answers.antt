@@ -1,7 +1,7 @@
 use Rattle.std.proofs.Common.{◌≡◌, ◌∙◌, ◌++◌, ◌+◌, ℕ, List, [], ◌∷◌, length, sym, subst, refl, ap, arith}
 use Rattle.std.proofs.lemmas.List.{length-append}
 use Rattle.flag_rules.specs.Line.{line}
-use Rattle.document_check.specs.Inner.Pieces.{GoesOn}
+use Rattle.document_check.specs.Inner.Pieces.{Advances}
 use Rattle.document_check.proofs.Completing.{nothing_taken, goes_on, line_taken}
 use Rattle.document_check.proofs.reading.Reading.take.Goals as goal
 
@@ -32,4 +32,4 @@ returns-clause-goes_on g c =
     let m = g.M.Machine.semantics c.args.machine.now in
     let texts = c.args.names.now in
     let taken = c.loop-front.invariant.taken in
-    subst (λ (l : List ℕ). GoesOn m texts c.args.self.now l c.add.new.self) (sym taken.cut) (goes_on m texts c.args.self.now c.loop-front.self c.add.new.self taken.before c.loop-front.rest.now taken.goes_on c.add.ensures.goes_on)
+    subst (λ (l : List ℕ). Advances m texts c.args.self.now l c.add.new.self) (sym taken.cut) (goes_on m texts c.args.self.now c.loop-front.self c.add.new.self taken.before c.loop-front.rest.now taken.goes_on c.add.ensures.goes_on)
