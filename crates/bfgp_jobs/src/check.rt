@@ -1,7 +1,9 @@
 ghost use Rattle.std.specs.Prelude.{◌≡◌, [], ◌∷◌, ◌++◌, if◌then◌else◌, Err, IfOk, IfErr};
 ghost use Rattle.bfgp_outside.specs.Causes.{RoseIf};
 ghost use Rattle.bfgp_outside.specs.Shelf.{Knowing, GoesOn, Asks};
+ghost use Rattle.program_text.specs.Names.{AreNames};
 ghost use Rattle.pointer_machine.specs.Machine.{meaning_of};
+ghost use Rattle.pointer_machine.specs.Texts.{operation_texts};
 ghost use Rattle.document_check.specs.Files.{IsVerdictOn};
 ghost use Rattle.document_check.specs.Standing.{StandsFor};
 ghost use Rattle.command_words.specs.Words.{IsCheckJob, names_of};
@@ -10,6 +12,7 @@ ghost use Rattle.input_reading.specs.Steps.{Gives};
 ghost use Rattle.input_reading.specs.Inputs.{file_due};
 ghost use Rattle.input_reading.specs.Causes.{HaltCause, is_read_fault};
 ghost use Rattle.bfgp_jobs.specs.Due.{accepted_reply, check_due, rejected_reply};
+ghost use Rattle.bfgp_jobs.specs.Inner.Telling.{TellsAccepted};
 ghost use Rattle.bfgp_jobs.specs.Answers.{IsAnswerStatus, IsSpent};
 
 use crate::reply::Reply;
@@ -44,16 +47,36 @@ pub(crate) fn check<S: Shelf>(alloc: Global, shelf: &mut S, job: &CheckJob) -> R
     ensures asks { AsksInTurn (S.asked shelf.old) (S.asked shelf.new)
         (names_of job.now.inputs ++ job.now.answer ∷ []) }
 {
-    let machine = machine_for(alloc, shelf, &job.inputs, job.pointers)?;
-    let names = Names::build(alloc, machine.op_texts(alloc)?)?;
     let verdicts = Verdicts::new(alloc)?;
-    let checker = Checker::start(alloc, &machine, &names, job.lines)?;
-    let accepted = is_accepted_file(alloc, shelf, job.answer.as_slice(), checker)?;
+    let machine = machine_for(alloc, shelf, &job.inputs, job.pointers)?;
+    let accepted = is_accepted_file(alloc, shelf, &machine, job)?;
     Ok(verdicts.reply(accepted))
 }
 
-// Whether the answer file of a name is accepted. It takes no memory, but to tell a fault of the file.
+// Whether the answer file of a job is accepted. All memory is taken before the file is read, but what is wanted to tell its fault.
 fn is_accepted_file<S: Shelf>(
+    alloc: Global,
+    shelf: &mut S,
+    machine: &PointerMachine,
+    job: &CheckJob,
+) -> Result<bool, Halt>
+    requires { AreNames (operation_texts machine.now.task machine.now.pointers) }
+    ensures tells { IfOk result (λ accepted. Knowing (S.files shelf.old)
+        (λ files. TellsAccepted machine.now job.now.lines (file_due files MAX_DOCUMENT_BYTES job.now.answer) accepted)) }
+    ensures due { IfErr result (λ halt. Knowing (S.files shelf.old)
+        (λ files. Gives (file_due files MAX_DOCUMENT_BYTES job.now.answer) (Err halt))) }
+    ensures cause { IfErr result (HaltCause (S.absences shelf.old) (S.absences shelf.new)) }
+    ensures reads { RoseIf (is_read_fault result) (S.faults shelf.old) (S.faults shelf.new) }
+    ensures goes_on { GoesOn S.files S.faults S.absences shelf.old shelf.new }
+    ensures asks { AsksInTurn (S.asked shelf.old) (S.asked shelf.new) (job.now.answer ∷ []) }
+{
+    let names = Names::build(alloc, machine.op_texts(alloc)?)?;
+    let checker = Checker::start(alloc, machine, &names, job.lines)?;
+    judge_file(alloc, shelf, job.answer.as_slice(), checker)
+}
+
+// Whether the file of a name is accepted by a checker.
+fn judge_file<S: Shelf>(
     alloc: Global,
     shelf: &mut S,
     name: &[u8],
@@ -61,7 +84,7 @@ fn is_accepted_file<S: Shelf>(
 ) -> Result<bool, Halt>
     requires { StandsFor (meaning_of checker.machine) checker [] }
     ensures verdict { IfOk result (λ accepted. IsVerdictOn (meaning_of checker.entry.machine) checker.entry.texts
-        checker.entry.reading.lines (S.files shelf.old) name.now MAX_DOCUMENT_BYTES accepted) }
+        checker.entry.lines (S.files shelf.old) name.now MAX_DOCUMENT_BYTES accepted) }
     ensures due { IfErr result (λ halt. Knowing (S.files shelf.old)
         (λ files. Gives (file_due files MAX_DOCUMENT_BYTES name.now) (Err halt))) }
     ensures cause { IfErr result (HaltCause (S.absences shelf.old) (S.absences shelf.new)) }
