@@ -1,5 +1,5 @@
 -- The texts of the operations of a machine that is made of files are short.
-use Rattle.std.proofs.Common.{◌≡◌, ℕ, ◌≤◌, List, length, map, Option, Some, Ok, Err, Bool, true, false, nat_lt, if◌then◌else◌, All, refl, sym, ◌∙◌, ap, subst, arith}
+use Rattle.std.proofs.Common.{◌≡◌, ℕ, ◌≤◌, List, length, Option, Some, Ok, Err, Bool, true, false, nat_lt, if◌then◌else◌, All, refl, sym, ◌∙◌, ap, subst, arith}
 use Rattle.std.proofs.lemmas.Bool.Decides.{nat_tests}
 use Rattle.std.proofs.lemmas.List.Elements.{All-map}
 use Rattle.bfgp_outside.specs.Shelf.{Files}
@@ -8,7 +8,7 @@ use Rattle.bfgp_outside.specs.declared.whole.ReadRefusal.TheVariants.{TooLong}
 use Rattle.flag_rules.specs.declared.file.TheConstants.{MAX_FILE_BYTES}
 use Rattle.pddl_parser.specs.declared.texts.DomainText.{DomainText}
 use Rattle.pddl_task.specs.Types.{type_names, names_of}
-use Rattle.pddl_task.specs.Parts.{predicate_of, schema_of, heads_of, task_of, TaskOf}
+use Rattle.pddl_task.specs.Parts.{predicate_of, schema_of, heads_of, TaskOf}
 use Rattle.ground_state.specs.declared.parts.TaskParts.{TaskParts}
 use Rattle.ground_state.specs.declared.parts.SchemaEntry.{SchemaEntry}
 use Rattle.ground_state.specs.declared.parts.PredicateEntry.{PredicateEntry}

@@ -1,6 +1,6 @@
 -- The names of a domain are no longer than the text that it is read of.
-use Rattle.std.proofs.Common.{◌≡◌, ℕ, ◌+◌, ◌-◌, ◌≤◌, List, [], ◌∷◌, length, take, drop, Option, Some, None, IfSome, All, arith, length-drop}
-use Rattle.std.specs.Prelude.{codes, slice_range}
+use Rattle.std.proofs.Common.{ℕ, ◌-◌, ◌≤◌, List, [], ◌∷◌, length, drop, Option, Some, None, IfSome, All, arith, length-drop}
+use Rattle.std.specs.Prelude.{slice_range}
 use Rattle.std.proofs.lemmas.List.{length-map, length-take}
 use Rattle.std.specs.Char.{to_ascii_lowercase}
 use Rattle.std.proofs.lemmas.List.Elements.{All-nil, All-cons, All-push}
@@ -8,8 +8,8 @@ use Rattle.pddl_lexer.specs.declared.lexer.Kind.{Kind}
 use Rattle.pddl_lexer.specs.declared.lexer.Kind.TheVariants.{Name}
 use Rattle.pddl_lexer.specs.declared.lexer.Token.{Token}
 use Rattle.pddl_forms.specs.declared.texts.Word.{Word}
-use Rattle.pddl_forms.specs.Lexemes.{Lexeme, left, right, name, dash, gap, lower, lexeme, see, lexemes}
-use Rattle.pddl_forms.specs.Forms.{IsNameWord, is_name_word, IsHead, is_head, IsTerm, is_constant, is_argument, IsVariableWord, is_variable_word, Many, close, more, Closed, closed, Group, last, with_next, TypedList, untyped_words, typed_group, open_group, IsAtom, is_atom, IsLiftedAtom, Conjunction, nothing, all_of, just, Conjuncts, finished, also, IsChange, is_added, is_deleted, IsNames, IsVariables}
+use Rattle.pddl_forms.specs.Lexemes.{Lexeme, left, right, name, dash, gap, lower, lexeme, lexemes}
+use Rattle.pddl_forms.specs.Forms.{IsNameWord, is_name_word, IsHead, is_head, IsTerm, is_constant, is_argument, IsVariableWord, is_variable_word, Many, close, more, Closed, closed, Group, last, with_next, TypedList, untyped_words, typed_group, open_group, is_atom, IsLiftedAtom, Conjunction, nothing, all_of, just, Conjuncts, finished, also, IsChange, is_added, is_deleted, IsNames, IsVariables}
 use Rattle.pddl_parser.specs.declared.texts.PredText.{PredText}
 use Rattle.pddl_parser.specs.declared.texts.ActionText.{ActionText}
 use Rattle.pddl_parser.specs.declared.texts.DomainText.{DomainText}
