@@ -23,7 +23,7 @@ use refutation_check::accepts;
 use std::alloc::Global;
 
 /// The greatest number of bytes of an answer document that `check` reads.
-pub const MAX_DOCUMENT_BYTES: u64 = 67_108_864;
+pub const MAX_DOCUMENT_BYTES: u64 = 4_294_967_296;
 
 /// What is written of a document that is accepted.
 const ACCEPTED: &[u8] = b"accepted\n";

@@ -13,6 +13,6 @@ pub fn at_most_one_reply_is_due()
 
 /// A law: the limit on documents, and the exit status of a process that does not get its words as text, as numbers.
 pub fn limits()
-    ensures document_bytes { MAX_DOCUMENT_BYTES ≡ 67108864 }
+    ensures document_bytes { MAX_DOCUMENT_BYTES ≡ 4294967296 }
     ensures no_words { NO_WORDS ≡ 9 }
 {}
