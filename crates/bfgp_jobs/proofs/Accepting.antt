@@ -1,8 +1,15 @@
 -- What `synth` writes, `check` accepts.
-use Rattle.std.proofs.Common.{◌≡◌, ℕ, ◌≤◌, List, length, Option, Ok, sym, ap, subst}
+use Rattle.std.proofs.Common.{◌≡◌, ℕ, ◌≤◌, List, length, All, Option, Ok, sym, ap, subst, arith}
 use Rattle.bfgp_outside.specs.Shelf.{Files}
 use Rattle.bfgp_outside.specs.Whole.{whole_of}
 use Rattle.pointer_machine.specs.Machine.{MachineParts}
+use Rattle.pointer_machine.specs.Texts.{operation_texts}
+use Rattle.answer_writer.specs.Document.{document}
+use Rattle.document_length.specs.declared.lengths.TheConstants.{MAX_TEXT_LENGTH, MAX_DOCUMENT_LENGTH}
+use Rattle.document_length.proofs.Sizes.{document_fits}
+use Rattle.synthesis.specs.BestFirst.{best_first}
+use Rattle.written_length.proofs.Budgets.{splits_within}
+use Rattle.written_length.proofs.Files.{operations_short}
 use Rattle.command_words.specs.declared.job.Job.{Job}
 use Rattle.command_words.specs.declared.job.Job.TheVariants.{Synth, Check}
 use Rattle.command_words.specs.declared.job.SynthJob.{SynthJob}
@@ -17,7 +24,7 @@ use Rattle.bfgp_jobs.specs.declared.status.Status.{Status}
 use Rattle.bfgp_jobs.specs.Reply.{Reply}
 use Rattle.bfgp_jobs.specs.Due.{Due, answer, synth_due, check_due, job_due, IsAcceptedDocument, accepted, accepted_reply}
 use Rattle.bfgp_jobs.specs.Answers.{IsAnswerStatus}
-use Rattle.bfgp_jobs.specs.Headline.{posed_parts}
+use Rattle.bfgp_jobs.specs.Headline.{posed_parts, posed_machine}
 use Rattle.bfgp_jobs.specs.Acceptance.{check_of, HoldsWritten, CheckAccepts}
 use Rattle.bfgp_jobs.specs.Inner.Replying.{Writes}
 use Rattle.bfgp_jobs.proofs.Statuses.{verdict_no_input, verdict_no_usage, verdict_no_write}
@@ -40,12 +47,27 @@ module _ (files : Files) (job : SynthJob) (reply : Reply) (known : Answered file
         is_accepted = answer_accepted files job reply known;
       })
 
+  -- it has few enough bytes for a check
+  text_fits : length reply.text ≤ MAX_DOCUMENT_BYTES
+  text_fits =
+      let task = known.posed.task in
+      let texts = operation_texts task job.pointers in
+      let searched = known.searched in
+      let setting = best_first (posed_machine task known.posed.instances job.pointers) job.bounds in
+      let splits = splits_within setting job.bounds.budget job.bounds.lines known.found searched.is_answer in
+      let short : All (λ text. length text ≤ MAX_TEXT_LENGTH) texts =
+      subst (λ (m : MachineParts). All (λ text. length text ≤ MAX_TEXT_LENGTH) (operation_texts m.task m.pointers)) known.machine_is
+      (operations_short files job.inputs job.pointers known.machine searched.are.few_pointers.1 known.made) in
+      let fits : length (document texts known.found) ≤ MAX_DOCUMENT_LENGTH =
+      document_fits texts known.found known.named (document_says files job reply known).0 (omega (arith, splits, searched.within.few_splits)) short in
+      subst (λ (text : List ℕ). length text ≤ MAX_DOCUMENT_BYTES) (sym (ap (λ (r : Reply). r.text) known.is)) (omega (arith, fits))
+
   -- it is due that a check of it accepts
-  text_checked : (name : List ℕ) (later : Files) → HoldsWritten job files reply.text name later → length reply.text ≤ MAX_DOCUMENT_BYTES → check_due later (check_of job name) (Ok accepted_reply)
-  text_checked name later holds short =
+  text_checked : (name : List ℕ) (later : Files) → HoldsWritten job files reply.text name later → check_due later (check_of job name) (Ok accepted_reply)
+  text_checked name later holds =
       let made : machine_due later job.inputs job.pointers (Ok known.machine) = machine_kept files later job.inputs job.pointers (Ok known.machine) holds.kept known.made in
       let read : file_due later MAX_DOCUMENT_BYTES name (Ok reply.text) =
-      subst (λ (held : Option (List ℕ)). Ok reply.text ≡ whole_of held MAX_DOCUMENT_BYTES) (sym holds.holds) (short_whole reply.text MAX_DOCUMENT_BYTES short) in
+      subst (λ (held : Option (List ℕ)). Ok reply.text ≡ whole_of held MAX_DOCUMENT_BYTES) (sym holds.holds) (short_whole reply.text MAX_DOCUMENT_BYTES text_fits) in
       let is : IsAcceptedDocument known.machine job.bounds.lines reply.text = subst (λ (m : MachineParts). IsAcceptedDocument m job.bounds.lines reply.text) (sym known.machine_is) text_accepted in
       goes_on made (goes_on read (accepted is))
 
@@ -62,5 +84,5 @@ check_accepts words files reply status old new due writes = λ job is verdict.
       due = subst (Due words files) reply_is due;
       posed = known.posed;
       is_accepted = text_accepted files job reply known;
-      checked = λ name check_words later check_is holds short. answer (Check (check_of job name)) check_is (text_checked files job reply known name later holds short);
+      checked = λ name check_words later check_is holds. answer (Check (check_of job name)) check_is (text_checked files job reply known name later holds);
     }

@@ -153,9 +153,9 @@ module _ (task : TaskParts) (instances : List InstanceParts) (pointers lines : �
 -- ---- what the answer of a search shows
 -- the answer of a search over instances of a task that are valid, where its numbers are within their limits
 pub record IsSearched (task : TaskParts) (instances : List InstanceParts) (pointers : ℕ) (bounds : Bounds) (found : Answer) : Type 0 where
-  are : ArePosed task instances pointers
-  within : AreWithinLimits bounds
-  is_answer : IsBestFirstAnswer (posed_machine task instances pointers) bounds found
+  pub are : ArePosed task instances pointers
+  pub within : AreWithinLimits bounds
+  pub is_answer : IsBestFirstAnswer (posed_machine task instances pointers) bounds found
 
 -- the outcome by its status
 done_is : (outcome : Outcome) → status_of outcome ≡ Done → (size : ℕ) × (outcome ≡ outcomes.Program size)
@@ -292,9 +292,9 @@ pub record Answered (files : Files) (job : SynthJob) (reply : Reply) : Type 0 wh
   pub made : machine_due files job.inputs job.pointers (Ok machine)
   pub machine_is : machine ≡ posed_parts posed.task posed.instances job.pointers
   pub found : Answer
-  searched : IsSearched posed.task posed.instances job.pointers job.bounds found
+  pub searched : IsSearched posed.task posed.instances job.pointers job.bounds found
   pub is : reply ≡ record { status = status_of found.outcome; text = document (operation_texts posed.task job.pointers) found }
-  named : AreNames (operation_texts posed.task job.pointers)
+  pub named : AreNames (operation_texts posed.task job.pointers)
 
 pub answered : (files : Files) (job : SynthJob) (reply : Reply) → IsSynthJob job → synth_due files job (Ok reply) → Answered files job reply
 answered files job reply is_job (goes_on {a = machine} made found) =

@@ -1,5 +1,5 @@
 -- What `synth` writes, `check` accepts.
-use Rattle.std.specs.Prelude.{◌≡◌, ℕ, ◌≤◌, List, length, All, Option, Some}
+use Rattle.std.specs.Prelude.{◌≡◌, ℕ, List, All, Option, Some}
 use Rattle.bfgp_outside.specs.Shelf.{Files}
 use Rattle.bfgp_outside.specs.Sink.{Appends}
 use Rattle.command_words.specs.declared.job.Job.TheVariants.{Synth, Check}
@@ -7,7 +7,6 @@ use Rattle.command_words.specs.declared.job.SynthJob.{SynthJob}
 use Rattle.command_words.specs.declared.job.CheckJob.{CheckJob}
 use Rattle.command_words.specs.Words.{JobOf, names_of}
 use Rattle.input_reading.specs.Posed.{Poses}
-use Rattle.bfgp_jobs.specs.declared.check.TheConstants.{MAX_DOCUMENT_BYTES}
 use Rattle.bfgp_jobs.specs.declared.status.Status.{Status}
 use Rattle.bfgp_jobs.specs.Due.{Due, IsAcceptedDocument, accepted_reply}
 use Rattle.bfgp_jobs.specs.Headline.{posed_parts}
@@ -22,15 +21,15 @@ pub record HoldsWritten (job : SynthJob) (files : Files) (bytes name : List ℕ)
   pub kept : All (λ input. later input ≡ files input) (names_of job.inputs)
   pub holds : later name ≡ Some bytes
 
--- the bytes that were written are due, and they are the document of an answer that is accepted; so where they are within the limit
--- of `check`, it is due that it answers `accepted` for a file that holds them, and ends with 0
+-- the bytes that were written are due, and they are the document of an answer that is accepted; so it is due that `check` answers
+-- `accepted` for a file that holds them, and ends with 0
 pub record WritesAccepted (words : List (List ℕ)) (job : SynthJob) (files : Files) (status : Status) (old new : Option (List ℕ)) : Type 0 where
   pub bytes : List ℕ
   pub appended : Appends old new bytes
   pub due : Due words files (record { status = status; text = bytes })
   pub posed : Poses job.inputs files
   pub is_accepted : IsAcceptedDocument (posed_parts posed.task posed.instances job.pointers) job.bounds.lines bytes
-  pub checked : (name : List ℕ) (check_words : List (List ℕ)) (later : Files) → JobOf check_words (Check (check_of job name)) → HoldsWritten job files bytes name later → length bytes ≤ MAX_DOCUMENT_BYTES → Due check_words later accepted_reply
+  pub checked : (name : List ℕ) (check_words : List (List ℕ)) (later : Files) → JobOf check_words (Check (check_of job name)) → HoldsWritten job files bytes name later → Due check_words later accepted_reply
 
 -- where the words are those of a search, and the status is that of an answer, this is so of what was written
 abbrev pub CheckAccepts : List (List ℕ) → Files → Status → Option (List ℕ) → Option (List ℕ) → Type 0

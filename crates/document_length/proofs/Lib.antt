@@ -1,0 +1,4 @@
+pub mod Marks
+pub mod ShortLines
+pub mod Trees
+pub mod Sizes

@@ -1,0 +1,4 @@
+pub mod Budgets
+pub mod Names
+pub mod Texts
+pub mod Files
