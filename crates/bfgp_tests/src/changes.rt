@@ -2,7 +2,6 @@
 //! stands there instead, and the verdict; nothing stands there where the line is left out.
 
 use crate::calls::{shelf_of, status_of};
-use crate::pieces::is_accepted_in_pieces;
 use bfgp_outside::{MemoryShelf, MemorySink};
 use std::alloc::{AllocError, Global};
 use std::process::Abort;
@@ -22,27 +21,8 @@ pub fn check_changes<R: Abort>(
         let changed = changed(alloc, document, change)?;
         let is_due = answers(alloc, &mut shelf, words, changed.as_bytes(), verdict)?;
         assert!(rt; is_due, "{change}");
-        assert!(rt; is_same_in_pieces(alloc, words, changed.as_bytes(), verdict)?, "{change}");
     }
     Ok(())
-}
-
-// How many bytes the pieces have in which each changed document is checked.
-const PIECES: [usize; 5] = [1, 2, 3, 7, 65_536];
-
-// Whether a document gets this verdict in whatever pieces it comes.
-fn is_same_in_pieces(
-    alloc: Global,
-    words: &str,
-    document: &[u8],
-    verdict: &str,
-) -> Result<bool, Fail> {
-    for length in PIECES {
-        if is_accepted_in_pieces(alloc, words, document, length)? != (verdict == "accepted") {
-            return Ok(false);
-        }
-    }
-    Ok(true)
 }
 
 /// Whether a document gets this verdict, and no other line and status, by words whose answer file is `answer`.

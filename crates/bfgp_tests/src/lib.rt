@@ -37,8 +37,6 @@ mod orders;
 #[cfg(test)]
 mod other_forms;
 #[cfg(test)]
-mod pieces;
-#[cfg(test)]
 mod program_files;
 #[cfg(test)]
 mod reading_order;
