@@ -1,0 +1,7 @@
+(define (domain many) (:predicates (r ?x ?y) (q ?x) (d ?x))
+  (:action a0 :parameters (?x ?y ?z) :precondition (and (r ?x ?y) (r ?y ?z)) :effect (and (q ?z)))
+  (:action a1 :parameters (?x ?y ?z) :precondition (and (r ?y ?x) (r ?z ?y)) :effect (and (q ?x)))
+  (:action a2 :parameters (?x ?y ?z) :precondition (and (r ?x ?z) (q ?y)) :effect (and (q ?z)))
+  (:action a3 :parameters (?x ?y ?z) :precondition (and (r ?z ?x) (q ?x)) :effect (and (not (q ?x))))
+  (:action a4 :parameters (?x ?y ?z) :precondition (and (q ?x) (r ?x ?y) (r ?x ?z)) :effect (and (r ?y ?z)))
+)
