@@ -33,7 +33,7 @@ pub fn count_accepted(
     for length in lengths {
         let mut checker = Checker::start(alloc, &machine, &names, job.lines)?;
         take_all(&mut checker, document, *length);
-        count += usize::from(checker.finish());
+        count = count.saturating_add(usize::from(checker.finish()));
     }
     Ok(count)
 }
