@@ -29,7 +29,7 @@ pub fn count_accepted(
         return Err(Fail::new("no machine"));
     };
     let names = Names::build(alloc, machine.op_texts(alloc)?)?;
-    let mut count = 0;
+    let mut count: usize = 0;
     for length in lengths {
         let mut checker = Checker::start(alloc, &machine, &names, job.lines)?;
         take_all(&mut checker, document, *length);
