@@ -61,10 +61,10 @@ fn is_accepted_in_pieces(
 
 // How many fronts of a document are accepted, the empty one and the whole among them, where it comes byte by byte.
 fn accepted_fronts(alloc: Global, words: &str, document: &[u8]) -> Result<usize, Fail> {
-    let mut count = 0;
+    let mut count: usize = 0;
     for length in 0..document.len() + 1 {
         if is_accepted_in_pieces(alloc, words, &document[..length], 1)? {
-            count += 1;
+            count = count.saturating_add(1);
         }
     }
     Ok(count)
@@ -75,17 +75,25 @@ const CHECK_ONE: &str = "check --pointers 1 --lines 3 --answer answer lights unl
 // Lines that are changed, by their numbers from 1, and whether the document is accepted then, in pieces of each length.
 const CHANGES: &str = "\
 1 bfgp answer 1: accepted
+19 : rejected
+11 : rejected
+14 : rejected
 7 f 0 2: rejected
 7 t: rejected
 7 o: rejected
+7 g: rejected
 7 r 0: rejected
 9 s 0 99999: accepted
 9 s 0 100000: rejected
 10 f 0 1: accepted
 10 t: accepted
+11 o: accepted
+12 r 0: accepted
+13 f 0 7: accepted
 14 l 0 5 9: accepted
 14 l 0 9 9: rejected
 16 inc p0: rejected
+16 act light p0 : rejected
 16 ACT light p0: rejected
 18 ends 0 2: rejected
 18 ends 1 1: rejected
@@ -95,18 +103,26 @@ const CHANGES: &str = "\
 4 instances 2: rejected
 2 pointers 2: rejected
 3 lines 16: rejected
+1 bfgp answer 2: rejected
 ";
 
 // How many bytes the pieces have in which each changed document comes.
 const PIECES: [usize; 5] = [1, 2, 3, 7, 65_536];
 
-// The document with another line in place of one, by its number from 1.
-fn with_line(alloc: Global, document: &str, number: &str, instead: &str) -> Result<String, Fail> {
-    let place = number.parse::<usize>().unwrap_or(0);
+// The document with another line in place of one, by its number from 1, or without it where nothing is given.
+fn with_line(
+    alloc: Global,
+    document: &str,
+    number: usize,
+    instead: &str,
+) -> Result<String, AllocError> {
     let mut changed = String::new(alloc);
     for (above, line) in document.lines().enumerate() {
-        changed.push_str(if above + 1 == place { instead } else { line })?;
-        changed.push_str("\n")?;
+        let line = if above + 1 == number { instead } else { line };
+        if !line.is_empty() {
+            changed.push_str(line)?;
+            changed.push_str("\n")?;
+        }
     }
     Ok(changed)
 }
@@ -114,6 +130,7 @@ fn with_line(alloc: Global, document: &str, number: &str, instead: &str) -> Resu
 // In how many lengths of pieces a changed document is accepted: all of them, or none.
 fn is_due(alloc: Global, change: &str, verdict: &str) -> Result<bool, Fail> {
     let (number, instead) = change.split_once(' ').unwrap_or((change, ""));
+    let number = number.parse::<usize>().unwrap_or(0);
     let changed = with_line(alloc, LIT_IN_TWO_LINES, number, instead)?;
     let count = count_accepted(alloc, CHECK_ONE, changed.as_bytes(), &PIECES)?;
     Ok(
@@ -172,12 +189,12 @@ fn only_the_whole_document_is_accepted(rt: HostRuntime) -> Result<(), Fail> {
 
 // How many of the documents with one byte left out are accepted.
 fn accepted_without_a_byte(alloc: Global, words: &str, document: &[u8]) -> Result<usize, Fail> {
-    let mut count = 0;
+    let mut count: usize = 0;
     for place in 0..document.len() {
         let mut bytes = Vec::from_slice(alloc, document)?;
         bytes.remove(place);
         if is_accepted_in_pieces(alloc, words, bytes.as_slice(), 7)? {
-            count += 1;
+            count = count.saturating_add(1);
         }
     }
     Ok(count)
