@@ -11,12 +11,6 @@ mod calls;
 #[cfg(test)]
 mod canonical_forms;
 #[cfg(test)]
-mod changes;
-#[cfg(test)]
-mod checks;
-#[cfg(test)]
-mod documents;
-#[cfg(test)]
 mod families;
 #[cfg(test)]
 mod faults;
@@ -44,8 +38,6 @@ mod reading_order;
 mod reports;
 #[cfg(test)]
 mod searches;
-#[cfg(test)]
-mod single_changes;
 #[cfg(test)]
 mod turns;
 #[cfg(test)]

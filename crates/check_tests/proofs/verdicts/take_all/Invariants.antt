@@ -1,5 +1,5 @@
 use Rattle.std.proofs.Common.{length}
-use Rattle.check_tests.proofs.pieces.take_all.Given as goal
+use Rattle.check_tests.proofs.verdicts.take_all.Given as goal
 
 abbrev pub decreases-loop-rest : goal.decreases-loop-rest
 decreases-loop-rest l = length l.rest
